@@ -219,7 +219,8 @@ def warned(scenario: Scenario) -> list[str]:
 
 
 def test_the_warnings_of_a_planned_network():
-    contend, at_once, slack = warned(planned_grid())
+    lost, contend, at_once, slack = warned(planned_grid())
+    assert lost.startswith("the text of a scenario has no reception ratios, so the 141 of this one are lost in it, and its links lose nothing; `network_text`")
     assert "nodes ask for their streams in one contention slot" in at_once
     assert contend.startswith("the ids of nodes 1 and 17, 2 and 18, 4 and 20, 8 and 24 are equal modulo 16")
     assert "and 12 more" in slack

@@ -147,7 +147,8 @@ def test_all_that_is_written_has_the_names(named: results.Log, tmp_path: Path, u
 
 def test_a_text_keeps_the_names(named: results.Log) -> None:
     text = named.scenario.text(warn=False)
-    assert text.startswith("#: name 1 cellar\n#: name 2 stairs\n#: name 3 pump\nprofile 1\n")
+    places = "#: place 1 0.0 0.0\n#: place 2 1.0 0.0\n#: place 3 2.0 0.0\n"
+    assert text.startswith(f"#: name 1 cellar\n#: name 2 stairs\n#: name 3 pump\n{places}profile 1\n")
     read = Scenario.read(text)
     assert read.labels == named.scenario.labels and read.text(warn=False) == text
     # The program takes them for what they are to it, comments; a name may have blanks.
@@ -174,7 +175,8 @@ def test_names_on_the_command_line(named: results.Log, tmp_path: Path, monkeypat
     drawn = Path("named.svg").read_text()
     assert "stairs" in drawn and Path("plain.svg").read_text() == drawn
     assert main(["draw", "named.scenario", "--ratios", "links.csv"]) == 0
-    assert "#: name 3 pump\n#: seed 1\n#: prr 2 3 0.5\n" in capsys.readouterr().out
+    told = capsys.readouterr().out
+    assert "#: name 3 pump\n" in told and "#: seed 1\n#: prr 2 3 0.5\n" in told
     Path("places.csv").write_text("id,x,y,name\n1,0,0,gate\n2,1,0,\n9,5,5,far\n3,2,0,well\n")
     assert main(["topology", "plain.scenario", "--places", "places.csv", "-o", "other.svg"]) == 0
     assert "gate" in Path("other.svg").read_text()

@@ -21,6 +21,8 @@ if TYPE_CHECKING:
 
 Call = TypeVar("Call", bound=Callable[..., Any])
 AnyScenario = TypeVar("AnyScenario", bound="Scenario")
+# How names of files with texts end.
+_FILES = (".scenario", ".network", ".flood", ".deadlines", ".log", ".txt")
 _DECIMAL_COMMA = re.compile(r"[+-]?\d+,\d+", re.ASCII)
 
 
@@ -157,9 +159,11 @@ def payload(name: str, value: Any) -> bytes:
 def text(name: str, value: Any) -> bytes:
     """The bytes of a text that is given as such, or by the path of a file (`pathlib.Path`) that has it.
 
-    Raises `ArgumentError` where it is neither, and `OSError` where the file can't be read.
+    Raises `ArgumentError` where it is neither, or a text that is the name of a file, and `OSError` where the file can't be read.
     """
     if isinstance(value, str):
+        if "\n" not in value and (value.endswith(_FILES) or (value and os.path.isfile(value))):
+            raise ArgumentError(f"`{name}` is {value!r}, the name of a file, and has to be a text; write pathlib.Path({value!r}) for that in the file")
         return value.encode("utf-8", "surrogateescape")
     if isinstance(value, (bytes, bytearray, memoryview)):
         return bytes(value)

@@ -110,7 +110,8 @@ def topology(
     the colour of a link its reception ratio. The half of a line next to a node is the link to it; a link that is in one
     direction alone is an arrow.
 
-    `positions` are places of the nodes in any unit, upwards; without them the map is laid out by the links. Nodes so near to each
+    `positions` are places of the nodes in any unit, upwards; without them they are those of the scenario (`Scenario.places`), if each node
+    has one, else the map is laid out by the links. Nodes so near to each
     other that one would hide the other are moved apart, by no more than that takes. `failed` are links
     that are drawn as failed, besides those with a ratio of 0; with `at_seconds` (from the start of the run) also those of nodes
     without power then, hops are counted from the host that has power, and ratios are those of that time.
@@ -124,6 +125,8 @@ def topology(
     """
     if not scenario.nodes:
         raise ValueError("the scenario has no nodes")
+    if positions is None and scenario.nodes.keys() <= scenario.places.keys():
+        positions = scenario.places
     laid = places(scenario) if positions is None else {node: positions[node] for node in scenario.nodes if node in positions}
     if missing := set(scenario.nodes) - set(laid):
         raise ValueError(f"node {scenario.name(min(missing))} has no place")

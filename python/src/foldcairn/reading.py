@@ -45,7 +45,9 @@ def scenario_of(kind: Callable[..., AnyScenario], text: str | bytes | os.PathLik
 
 
 def _take_kept(made: Scenario, row: bytes, own: set[Loss]) -> None:
-    """Takes from a comment the name of a node, by which seed, or by which ratio of a link, the losses were drawn, or one that was not."""
+    """Takes from a comment the name of a node, by which seed, or by which ratio of a link, the losses were drawn, one that was not, or
+    what `comments` has."""
+    from . import comments
     from .scenario import KEPT
 
     mark, *words = row.decode("utf-8", "replace").split() or [""]
@@ -66,6 +68,8 @@ def _take_kept(made: Scenario, row: bytes, own: set[Loss]) -> None:
         case ["ratio", frame, sender, receiver, ratio] if all(word.isdecimal() for word in words[1:4]):
             with contextlib.suppress(ValueError):
                 made.ratio(int(sender), int(receiver), float(ratio), frame=int(frame))
+        case _:
+            comments.take(made, words)
 
 
 def _is_utf8(row: bytes) -> bool:

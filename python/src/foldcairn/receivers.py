@@ -24,6 +24,7 @@ import numpy as np
 import pandas as pd
 from numpy.typing import NDArray
 
+from . import arguments
 from .events import Put, Stream
 
 if TYPE_CHECKING:
@@ -128,9 +129,9 @@ def meant(scenario: Scenario, receivers: Receivers = None) -> Meant:
     given = scenario.receivers if receivers is None else receivers
     streams = streams_of(scenario)
     if not isinstance(given, Mapping):
-        nodes = _nodes(scenario, ALL if given is None else given)
+        nodes = nodes_of(scenario, ALL if given is None else given)
         return Meant(scenario, dict.fromkeys(streams, nodes))
-    named = {_stream(scenario, key): _nodes(scenario, value) for key, value in given.items()}
+    named = {stream_of(scenario, key): nodes_of(scenario, value) for key, value in given.items()}
     found = {stream: named.get(stream, named.get(stream[0], named.get(OTHERS))) for stream in streams}
     if lacking := [stream for stream, nodes in found.items() if nodes is None]:
         told = ", ".join(f"stream {stream} of node {scenario.name(node)}" for node, stream in lacking[:8])
@@ -138,7 +139,7 @@ def meant(scenario: Scenario, receivers: Receivers = None) -> Meant:
     return Meant(scenario, {stream: nodes for stream, nodes in found.items() if nodes is not None})
 
 
-def _stream(scenario: Scenario, key: Any) -> Any:
+def stream_of(scenario: Scenario, key: Any) -> Any:
     """The key of a mapping: a node, a node and its stream, or the word for all others."""
     if key == OTHERS and OTHERS not in scenario.labels.values():
         return key
@@ -147,13 +148,15 @@ def _stream(scenario: Scenario, key: Any) -> Any:
     return _id(scenario, key)
 
 
-def _nodes(scenario: Scenario, given: Any) -> str | frozenset[int]:
+def nodes_of(scenario: Scenario, given: Any) -> str | frozenset[int]:
+    """The nodes that are given, or the word for whichever host serves. Raises `ValueError` where they are none of the scenario."""
     if isinstance(given, str) and given not in scenario.labels.values():
         if given == HOSTS:
             return HOSTS
         if given == ALL:
             return frozenset(scenario.nodes)
-        raise ValueError(f'`receivers` is {given!r}, and neither "{ALL}" nor "{HOSTS}" nor the name of a node')
+        known = [ALL, HOSTS, *scenario.labels.values()]
+        raise ValueError(f'`receivers` is {given!r}, and neither "{ALL}" nor "{HOSTS}" nor the name of a node{arguments.did_you_mean(given, known)}')
     if isinstance(given, str) or not isinstance(given, Iterable):
         return frozenset({_id(scenario, given)})
     return frozenset(_id(scenario, node) for node in given)

@@ -80,11 +80,11 @@ class Scenario:
     losses, cuts, captures   single losses of links, of nodes, and receptions in spite of a collision
     script    what happens by frame; `text` sorts it by frames and keeps the order within a frame
 
-    What follows is for the answers about a run, and the program does not know it. A text has `labels`, `seed` and `drawn` as comments,
-    and nothing else of it.
+    What follows is for the answers about a run, and the program does not know it. A text has it as comments, but for `remarks`.
     receivers   for whom packets are meant, in the forms of `foldcairn.receivers` (`sinks` sets it); None: for all nodes
     keep_alive  the streams that are kept alive by packets of no bytes (`stream(.., keep_alive=..)`), which no answer counts
     labels      id -> name, where nodes have names: tables and pictures show them in place of the ids
+    places      id -> (x, y), the places of nodes for maps, in any unit, upwards; a map is laid out by the links where a node has none
     remarks     what reading tables left in doubt, in sentences; `cautions` has them too
     seed        by which `losses.draw` has drawn the losses; None: by none
     drawn       those of the `losses` that were drawn; the others are its own (`undrawn`)
@@ -111,6 +111,7 @@ class Scenario:
     receivers: Any = None
     keep_alive: set[tuple[int, int]] = field(default_factory=set)
     labels: dict[int, str] = field(default_factory=dict)
+    places: dict[int, tuple[float, float]] = field(default_factory=dict)
     remarks: list[str] = field(default_factory=list)
     seed: int | None = None
     drawn: set[Loss] = field(default_factory=set)
@@ -538,8 +539,8 @@ class Scenario:
         """The scenario of a text, or of the text in a file (a `pathlib.Path`), as the program reads it, but that lines of the
         script may be out of order.
 
-        It may have ratios below it, as `network_text` writes them. Of comments those are kept that `text` writes: names of nodes, the seed
-        and ratios of losses, and which of these were not drawn. Raises `ScenarioError`, which names the first line that is wrong, the word and its range.
+        It may have ratios below it, as `network_text` writes them. Comments that `text` writes are taken back. Raises `ScenarioError`,
+        which names the first line that is wrong, the word and its range, and `ArgumentError` for a text that is the name of a file.
         """
         from . import reading
 
@@ -547,25 +548,43 @@ class Scenario:
 
     def text(self, *, warn: bool = True) -> str:
         """The canonical text of the scenario; lines of the script are sorted by frames, and keep their order within one. Above it,
-        as comments, are the names of nodes, and the seed and the ratios by which its losses were drawn, if they were.
+        as comments, are the names and the places of nodes, the receivers, the streams that are kept alive, and the seed and the ratios by
+        which its losses were drawn, if they were. Ratios by which none were drawn are lost: `network_text` keeps them.
 
-        Gives `ScenarioWarning`s of what `cautions` names, unless `warn` is False.
+        Gives `ScenarioWarning`s of what `cautions` names, and of ratios that are lost, unless `warn` is False. Raises `ScenarioError` where
+        the receivers name a node that is not there.
         """
+        if warn and self.is_to_be_drawn:
+            words = (
+                f"the text of a scenario has no reception ratios, so the {len(self.ratio_lines()):,} of this one are lost in it, and its links lose "
+                "nothing; `network_text` keeps them, for `outcome`, `sample`, `draw` and `Scenario.read`"
+            )
+            warnings.warn(words, ScenarioWarning, stacklevel=2)
+        return self._text(warn)
+
+    def _text(self, warn: bool) -> str:
         if warn:
             for caution in self.cautions():
-                warnings.warn(caution, ScenarioWarning, stacklevel=2)
+                warnings.warn(caution, ScenarioWarning, stacklevel=3)
         return "\n".join(self._lines()) + "\n"
 
     def network_text(self, *, warn: bool = True) -> str:
         """The canonical text, and below a line `ratios` a line for each reception ratio, in millionths (docs/RATIOS.md). A scenario
-        without ratios, or whose losses are drawn, has none. Raises what `check_ratios` raises."""
+        without ratios, or whose losses are drawn, has none. It is all that answers go by: what `read` makes of it has the same ones.
+        Raises what `text` and `check_ratios` raise."""
         self.check_ratios()
         below = ["ratios", *(one.text() for one in self.ratio_lines())] if self.is_to_be_drawn else []
-        return self.text(warn=warn) + "".join(f"{one}\n" for one in below)
+        return self._text(warn) + "".join(f"{one}\n" for one in below)
 
     def _lines(self) -> Iterator[str]:
-        # Comments to the program, which `read` takes back: names of nodes, and what the losses were drawn by.
+        # Comments to the program, which `read` takes back: names of nodes, what `comments` has, and what the losses were drawn by.
+        from . import comments
+
         yield from (f"{KEPT} name {node} {' '.join(name.split())}" for node, name in sorted(self.labels.items()))
+        try:
+            yield from [f"{KEPT} {one}" for one in comments.of(self)]
+        except ValueError as error:
+            raise ScenarioError(str(error)) from error
         if self.seed is not None:
             yield f"{KEPT} seed {self.seed}"
             yield from (f"{KEPT} prr {sender} {receiver} {ratio!r}" for (sender, receiver), ratio in sorted(self.prr.items()))

@@ -75,12 +75,13 @@ class Settings:
         return json.dumps(asdict(self), indent=1, sort_keys=True) + "\n"
 
     def give(self, scenario: Scenario) -> Scenario:
-        """Gives a scenario, which was read from a text, what its text does not have, and gives it back."""
+        """Gives a scenario, which was read from a text, what its text may not have, and gives it back. The receivers of the page are
+        those of `whom`, whatever the scenario says."""
         scenario.prr.update({(int(one), int(other)): float(ratio) for one, other, ratio in self.ratios})
         scenario.ratios.update({(int(at), int(one), int(other)): float(ratio) for at, one, other, ratio in self.later_ratios})
         scenario.labels.update({int(node): str(name) for node, name in self.labels})
         scenario.keep_alive.update((int(node), int(stream)) for node, stream in self.keep_alive)
-        scenario.seed, scenario.receivers = self.seed, self.whom()
+        scenario.seed = self.seed
         return scenario
 
     def whom(self) -> Any:

@@ -217,6 +217,8 @@ class _Nodes:
             raise ArgumentError(f"`name` is not given, and other nodes have names; write one, or {cells.name(row['id'])}, its id")
         if self.ids or self.are_named:
             scenario.labels[node] = cells.name(row.get("name", row["id"]))
+        if "x" in row and "y" in row:
+            scenario.places[node] = real(row, "x"), real(row, "y")
         if "host" in row:
             scenario.host(whole(row, "host"), node)
         scenario.on(node, seconds=real(row, "on", 0.0))
