@@ -13,17 +13,17 @@ from itertools import combinations
 from operator import attrgetter
 from typing import TYPE_CHECKING
 
-from . import lines
+from . import doubts, lines
 from .events import Leave, Off, On, Put, ScriptLine, Stream
 
 if TYPE_CHECKING:
+    import networkx
+
     from .scenario import Scenario
 
 # The first round of a host that is on from frame 0 on is in this frame, and rounds are at most 4 frames apart.
 _FIRST_ROUND = 5
 _GAP_MOST = 4
-# A host takes a stream away whose slots stayed empty so many times in a row.
-_EMPTY_SLOTS = 16
 # A node has searched for a host for so many frames before the next rank serves: 12 for the first host, and 5 for its own rank.
 _TAKEOVER_FRAMES = 17
 # A stream whose packets come every so many seconds asks for a slot that much more often, so that its queue drains.
@@ -41,6 +41,7 @@ def of(scenario: Scenario, *, long: bool = False) -> list[str]:
     return [
         *scenario.remarks,
         *_too_large(scenario, long),
+        *doubts.of_frames(scenario),
         *_no_host(scenario),
         *_never_on(scenario),
         *_out_of_reach(scenario),
@@ -117,6 +118,13 @@ def _too_large(scenario: Scenario, long: bool) -> Iterator[str]:
 def _no_host(scenario: Scenario) -> Iterator[str]:
     if not scenario.hosts and scenario.nodes:
         yield "`run` rejects this: no node hosts; say which one by `host(0, id)`, or by a column `host` with the rank in the table of nodes"
+    lacking = [rank for rank in range(max(scenario.hosts, default=0)) if rank not in scenario.hosts]
+    if lacking:
+        ranks = f"rank{'s' * (len(lacking) > 1)} {_several(lacking)}"
+        yield (
+            f"`run` rejects this: there are hosts of rank {_several(sorted(scenario.hosts))}, and none of {ranks}; ranks go from 0, the first choice, "
+            "up to 3 without a gap"
+        )
 
 
 def _out_of_reach(scenario: Scenario) -> Iterator[str]:
@@ -131,9 +139,8 @@ def _out_of_reach(scenario: Scenario) -> Iterator[str]:
         data = graph.edges[one.sender, one.receiver]
         data["prr"] = max(data["prr"], one.prr)
     graph.remove_edges_from([(one, other) for one, other, ratio in graph.edges(data="prr") if ratio == 0])
+    yield from _alone(scenario, graph)
     alone = [node for node in sorted(graph) if not graph.in_degree(node) or not graph.out_degree(node)]
-    if alone:
-        yield f"{_nodes(scenario, alone)} {_has(alone)} no link to or from any other node, so {_it(alone)} can't take part"
     for _, _, data in graph.edges(data=True):
         # A lost packet comes again two steps later.
         data["steps"] = 1 + 2 * (1 / data["prr"] - 1)
@@ -150,6 +157,21 @@ def _out_of_reach(scenario: Scenario) -> Iterator[str]:
             f"the links to {_nodes(scenario, tight)} lose so much that a flood needs more than its {lines.STEPS} steps to get there: with "
             f"these ratios it takes some {steps[worst]:.0f} steps to node {scenario.name(worst)}, {near[worst]} hops away"
         )
+
+
+def _alone(scenario: Scenario, graph: networkx.DiGraph) -> Iterator[str]:
+    """Nodes that have no links, or links in one direction alone."""
+    none = [node for node in sorted(graph) if not graph.in_degree(node) and not graph.out_degree(node)]
+    unreached = [node for node in sorted(graph) if not graph.in_degree(node) and graph.out_degree(node)]
+    unheard = [node for node in sorted(graph) if graph.in_degree(node) and not graph.out_degree(node)]
+    if none:
+        yield f"{_nodes(scenario, none)} {_has(none)} no link to or from any other node, so {_it(none)} can't take part"
+    for nodes, lacks, there in ((unreached, "to", "from"), (unheard, "from", "to")):
+        if nodes:
+            yield (
+                f"{_nodes(scenario, nodes)} {_has(nodes)} links {there} other nodes and none {lacks} {'it' if len(nodes) == 1 else 'them'}, so "
+                f"{_it(nodes)} can't take part: a link is one direction, and `pair`, or a column `both` in the table of links, gives both"
+            )
 
 
 def _has(nodes: list[int]) -> str:
@@ -318,13 +340,13 @@ class _Streams:
         """Sporadic streams, which their host takes away between two packets."""
         found = []
         for (node, stream), frames in sorted(self.puts.items()):
-            limit = _EMPTY_SLOTS * max(self.intervals[node, stream], 1)
+            limit = lines.EMPTY_SLOTS * max(self.intervals[node, stream], 1)
             pauses = [(later - one) * self.scenario.frame_seconds for one, later in zip(frames, frames[1:])]
             if max(pauses, default=0) > limit:
                 found.append(f"{self._name(node, stream)} after {limit} s (its pauses are up to {max(pauses):,.0f} s)")
         if found:
             yield (
-                f"a host takes a stream away whose slots stay empty {_EMPTY_SLOTS} times in a row, and the next packet has to ask for it anew, "
+                f"a host takes a stream away whose slots stay empty {lines.EMPTY_SLOTS} times in a row, and the next packet has to ask for it anew, "
                 "which can take minutes where requests collide: "
                 f"{_several(found)}; `stream(.., keep_alive=seconds)` keeps it by packets of no bytes"
             )

@@ -11,7 +11,7 @@ from __future__ import annotations
 import numpy as np
 import pandas as pd
 
-from . import arguments, fates as _fates, power
+from . import arguments, doubts, fates as _fates, power
 from .answers import report_answer
 from .receivers import Meant, Receivers, meant, of_streams, stream_index
 from .results import PACKET, Log, Report, slot_seconds
@@ -217,6 +217,7 @@ def deadline(
     """
     keys = _keys(by, *_KEYS)
     seconds = arguments.real("seconds", seconds, above=0)
+    doubts.warn(doubts.of_deadline(log.scenario, seconds))
     pairs = _within(log, _pairs(log, receivers), start_seconds, end_seconds)
     pairs["due"] = pairs["put_seconds"] + seconds <= log.scenario.seconds
     pairs["in_time"] = pairs["due"] & (pairs["delivered_seconds"] - pairs["put_seconds"] <= seconds)

@@ -25,6 +25,8 @@ BOOTS_MOST = 200
 TEXT_BYTES_MOST = 4_194_304
 DIGITS_MOST = 13
 STREAMS_OF_A_HOST = 32
+# A host takes a stream away whose slots stayed empty so many times in a row.
+EMPTY_SLOTS = 16
 DATA_SLOTS = 40
 STEPS = 12
 PROFILES = (1, 2)
@@ -96,6 +98,7 @@ def payload_most(profile: int) -> int:
     return 32 if profile == 1 else 96
 
 
+_FRAMES = "; frames are no seconds: a frame has 4 s, in profile 2 5 s"
 # Packets may come less often than the slots of their stream.
 _INTERVAL = "; ask for 120, and put the packets as seldom as they come, as `every` does"
 
@@ -114,7 +117,7 @@ def _scenario_fields(context: Context) -> dict[str, tuple[Field, ...]]:
     return {
         "profile": (Field("profile", 1, 2),),
         "contend": (Field("number of contention slots", 1, 4),),
-        "frames": (Field("number of frames", 1, FRAMES_MOST),),
+        "frames": (Field("number of frames", 1, FRAMES_MOST, advice=_FRAMES),),
         "sends": (Field("number of transmissions of a node in one flood", 1, 4),),
         "node": (Field("id of the node", 1, 200, kind="new id"), Field("clock offset", 0, 256_000, "ticks of 1/64 µs")),
         "rate": (

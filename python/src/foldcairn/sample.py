@@ -20,7 +20,7 @@ import numpy as np
 import pandas as pd
 from numpy.typing import NDArray
 
-from . import arguments, files, findings, intervals, labels, power, radio, seeds as many, sweep, tallies
+from . import arguments, doubts, files, findings, intervals, labels, power, radio, seeds as many, sweep, tallies
 from .counts import Counts
 from .receivers import Receivers, meant
 from .results import TICKS_A_SECOND
@@ -286,6 +286,7 @@ def sample(
     meant(network, receivers)
     listed = many.checked(seeds)
     limit = None if deadline is None else arguments.real("deadline", deadline, above=0)
+    doubts.warn(() if limit is None else doubts.of_deadline(network, limit))
     if not network.is_to_be_drawn:
         raise arguments.ArgumentError(
             "the network has no reception ratios: each seed would be the same; give its links a `prr`, or take foldcairn.outcome"

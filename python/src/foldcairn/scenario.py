@@ -13,7 +13,7 @@ from dataclasses import MISSING, dataclass, field, fields, replace
 from operator import attrgetter
 from typing import TYPE_CHECKING, Any, Self
 
-from . import arguments, lines
+from . import arguments, doubts, lines
 from .arguments import ArgumentError
 from .events import Capture, Cut, Leave, Loss, Off, On, Put, Rate, Ratio, ScriptLine, Stream, millionths
 from .lines import Context, Field
@@ -85,7 +85,7 @@ class Scenario:
     keep_alive  the streams that are kept alive by packets of no bytes (`stream(.., keep_alive=..)`), which no answer counts
     labels      id -> name, where nodes have names: tables and pictures show them in place of the ids
     places      id -> (x, y), the places of nodes for maps, in any unit, upwards; a map is laid out by the links where a node has none
-    remarks     what reading tables left in doubt, in sentences; `cautions` has them too
+    remarks     what was left in doubt as it was built, in sentences; `cautions` has them too
     seed        by which `losses.draw` has drawn the losses; None: by none
     drawn       those of the `losses` that were drawn; the others are its own (`undrawn`)
     told        whether the length of the run was told already, where it is too long for a log
@@ -212,7 +212,10 @@ class Scenario:
         return self._require(word, *values)
 
     def _taken(self, word: str, values: Sequence[Any], value: Any, what: Field) -> int | bytes:
-        """The value of a field, one of the values of a line; raises `ScenarioError` where it is out of its range."""
+        """The value of a field, one of the values of a line; raises `ScenarioError` where it is out of its range. A node may be given by
+        its name."""
+        if isinstance(value, str) and what.kind == "id" and self.labels:
+            return self.id(value)
         if isinstance(value, bytes):
             if len(value) > what.high:
                 raise ScenarioError(f"`{_line(word, values)}`: {what.range_in_words()} in profile {self.profile}")
@@ -312,6 +315,7 @@ class Scenario:
 
     def unlink(self, one: int, other: int) -> Self:
         """Takes out the links between two nodes, in both directions, and their ratios, losses and captures."""
+        one, other = self.id(one), self.id(other)
         gone = {(one, other), (other, one)}
         self.links -= gone
         self.prr = {link: ratio for link, ratio in self.prr.items() if link not in gone}
@@ -347,6 +351,7 @@ class Scenario:
         self.script.append(asked)
         if keep_alive is not None:
             self.keep_alive.add((asked.node, asked.stream))
+            self.remarks.extend(doubts.of_keep_alive(self, asked, keep_alive))
             self.every(keep_alive, asked.node, b"", stream=asked.stream, start=float(asked.frame * self.frame_seconds))
         return self
 
@@ -373,7 +378,8 @@ class Scenario:
         found = named.get(node, node) if isinstance(node, str) else node
         if isinstance(found, str) or found not in self.nodes:
             known = ", ".join(str(named) for named in list(self.labels.values() or sorted(self.nodes))[:8])
-            raise ScenarioError(f"the scenario has no node {node}; it has {len(self.nodes)} nodes: {known}{', ..' * (len(self.nodes) > 8)}")
+            near = arguments.did_you_mean(node, self.labels.values()) if isinstance(node, str) else ""
+            raise ScenarioError(f"the scenario has no node {node}; it has {len(self.nodes)} nodes: {known}{', ..' * (len(self.nodes) > 8)}{near}")
         return int(found)
 
     def name(self, node: int) -> str:
@@ -425,6 +431,7 @@ class Scenario:
             )
         if interval is not None:
             self.stream(node, interval, stream=stream, seconds=start)
+        node = self.id(node) if isinstance(node, str) and self.labels else node
         count = 0
         while (time := start + count * seconds) < end:
             if payload is None:
@@ -433,6 +440,7 @@ class Scenario:
                 content = payload(count) if callable(payload) else payload
             self.put(node, content, stream=stream, seconds=time)
             count += 1
+        self.remarks.extend(doubts.of_period(self, node, stream, seconds, end - start))
         return self
 
     def lose(self, frame: int, slot: int, step: int, sender: int, receiver: int) -> Self:

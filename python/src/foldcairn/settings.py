@@ -13,11 +13,15 @@ from dataclasses import asdict, dataclass, field
 from pathlib import Path
 from typing import Any
 
+from . import arguments
 from .arguments import ArgumentError
 from .results import Log
 from .scenario import Scenario
 
 Places = Mapping[int, tuple[float, float]]
+# What a page can be given, and words that other calls and the command line have for it.
+_WORDS = ("title", "site", "plan", "notes", "positions", "receivers", "battery", "background", "extent")
+_OTHER_WORDS = {"places": "positions", "sinks": "receivers", "capacity_mah": "battery", "name": "title"}
 _BATTERY = ("capacity_mah", "transmit_ma", "receive_ma", "sleep_ma")
 
 
@@ -44,10 +48,13 @@ class Settings:
     def of(
         cls, scenario: Scenario, *, title: str = "A run", site: str = "", plan: str = "", notes: str = "", positions: Places | None = None,
         receivers: Any = None, battery: Mapping[str, float] | None = None,
-        background: str | os.PathLike[str] | bytes | None = None, extent: tuple[float, float, float, float] | None = None,
+        background: str | os.PathLike[str] | bytes | None = None, extent: tuple[float, float, float, float] | None = None, **other: Any,
     ) -> Settings:  # fmt: skip
         """The settings of a page of this scenario, with what no text of it has. Raises `ArgumentError` for a word of `battery` that
-        `planning.battery_life` does not have, and `OSError` where the background can't be read."""
+        `planning.battery_life` does not have, or any `other` word, and `OSError` where the background can't be read."""
+        for word in other:
+            near = _OTHER_WORDS.get(word) or arguments.near(word, _WORDS)
+            raise ArgumentError(f"a page has no {word!r}; {f'did you mean {near}? ' * bool(near)}it has {', '.join(_WORDS)}")
         if strange := set(battery or {}) - set(_BATTERY):
             raise ArgumentError(f"`battery` has {min(strange)!r}, and not one of {', '.join(_BATTERY)}")
         picture = background if isinstance(background, bytes) else b"" if background is None else Path(background).read_bytes()
