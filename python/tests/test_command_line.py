@@ -170,7 +170,7 @@ def test_explain(capsys, tmp_path):
     assert main(["explain", str(path)]) == 0
     assert "warning: node 3 is never switched on" in capsys.readouterr().out
     assert main(["explain", str(tmp_path / "none")]) == 3
-    assert "there is no file" in capsys.readouterr().err
+    assert capsys.readouterr().err == f"foldcairn: there is no file '{tmp_path / 'none'}'\n"
 
 
 def test_what_ends_a_command_before_its_time(capsys, monkeypatch):
@@ -183,7 +183,7 @@ def test_what_ends_a_command_before_its_time(capsys, monkeypatch):
     ends = [
         (KeyboardInterrupt(), 130, "foldcairn: stopped\n"),
         (ModuleNotFoundError("no plotly", name="plotly"), 1, f"foldcairn: {sys.executable} lacks the module plotly: "),
-        (OSError(28, "No space left on device", "report.html"), 1, "foldcairn: [Errno 28] No space left on device: 'report.html'"),
+        (OSError(28, "No space left on device", "report.html"), 1, "foldcairn: No space left on device: 'report.html'"),
     ]
     for error, status, says in ends:
         monkeypatch.setattr(results, "log", raising(error))

@@ -6,6 +6,9 @@ The front end `foldcairn` hands their words on to here, and names itself in the 
 from __future__ import annotations
 
 import argparse
+import contextlib
+import errno
+import io
 import os
 import sys
 import warnings
@@ -19,22 +22,29 @@ from . import ending, front_end
 try:
     from . import commands, outputs, plans, program, report, sweep
     from .arguments import ArgumentError
+    from .cautions import of
     from .commands import Commands
     from .scenario import Scenario, ScenarioWarning
 except ModuleNotFoundError as error:
     sys.exit(f"foldcairn: {front_end.missing(error)}")
+except KeyboardInterrupt:
+    # The libraries take most of a second.
+    print("foldcairn: stopped", file=sys.stderr)
+    sys.exit(130)
 
 if TYPE_CHECKING:
     from . import losses
 
-# Exit statuses: 0 done; 1 the text is rejected, or what was asked for can't be had; 2 the words are no command; 3 the input can't be read.
+# Exit statuses: 0 done; 1 the text is rejected, or what was asked for can't be had; 2 the words are no command; 3 the input can't be read;
+# 4 the output could not be written whole.
 _FAILED = 1
 _UNREADABLE = 3
+_UNWRITTEN = 4
 
 
 def main(arguments: Sequence[str] | None = None) -> int:
     """Runs one command, and gives its exit status."""
-    parser = argparse.ArgumentParser(
+    parser = commands.Parser(
         os.environ.get("FOLDCAIRN_CALLED", "python3 -m foldcairn"),
         description="Helps to plan with the program foldcairn, which it runs: set the environment variable FOLDCAIRN to its path "
         "where it is not in the repository or on the PATH. `COMMAND --help` says more.",
@@ -44,18 +54,24 @@ def main(arguments: Sequence[str] | None = None) -> int:
     for add in _COMMANDS:
         add(listed)
     chosen = parser.parse_args(arguments)
+    sys.stdout = sys.stdout or _Closed()  # type: ignore[assignment]
     warnings.showwarning = _show_warning
     warnings.simplefilter("always", ScenarioWarning)
     try:
         with ending.by_exception():
             status: int = chosen.run(chosen)
+            sys.stdout.flush()
             return status
     except ModuleNotFoundError as error:
         print(f"foldcairn: {front_end.missing(error)}", file=sys.stderr)
     except commands.Unreadable as error:
         print(f"foldcairn: {error}", file=sys.stderr)
         return _UNREADABLE
-    except (program.ProgramError, commands.Failed, sweep.SweepStopped, OSError, ValueError) as error:
+    except OSError as error:
+        if error.filename is None and error.errno in _OF_OUTPUT:
+            return _unwritten(error)
+        print(f"foldcairn: {_in_words(error)}", file=sys.stderr)
+    except (program.ProgramError, commands.Failed, sweep.SweepStopped, ValueError) as error:
         print(f"foldcairn: {error}", file=sys.stderr)
     except KeyboardInterrupt:
         print("foldcairn: stopped", file=sys.stderr)
@@ -64,6 +80,31 @@ def main(arguments: Sequence[str] | None = None) -> int:
         print("foldcairn: stopped", file=sys.stderr)
         return 128 + ended.signal
     return _FAILED
+
+
+# What can be wrong with the standard output: it is full, its reader is gone, or it was closed before.
+_OF_OUTPUT = (errno.ENOSPC, errno.EFBIG, errno.EDQUOT, errno.EPIPE, errno.EIO, errno.EBADF)
+
+
+class _Closed(io.TextIOBase):
+    """A standard output that was closed before this program began."""
+
+    def write(self, _: str) -> int:
+        """Raises `OSError`."""
+        raise OSError(errno.EBADF, "it is closed")
+
+
+def _unwritten(error: OSError) -> int:
+    """Says that the output could not be written whole, and lets the rest of it go nowhere, so that nothing is said at the end again."""
+    print(f"foldcairn: the output could not be written whole: {error.strerror}", file=sys.stderr)
+    with contextlib.suppress(OSError, ValueError):
+        os.dup2(os.open(os.devnull, os.O_WRONLY), sys.stdout.fileno())
+    return _UNWRITTEN
+
+
+def _in_words(error: OSError) -> str:
+    """What is wrong with a file, with its name."""
+    return f"{error.strerror}: '{os.fsdecode(error.filename)}'" if error.strerror and isinstance(error.filename, (str, bytes)) else str(error)
 
 
 def _show_warning(message: Warning | str, *_: object, **__: object) -> None:
@@ -88,8 +129,8 @@ def _add_draw(listed: Commands) -> None:
         "Writes the scenario with losses that are drawn from reception ratios. Only losses that change who receives are "
         "written; the same seed gives the same losses.",
     )  # fmt: skip
-    parser.add_argument("file", metavar="FILE", help="a scenario, or - for standard input")
-    parser.add_argument("--ratios", metavar="CSV", required=True, help="a table of links: from, to, prr (0 to 1)")
+    commands.add_file(parser)
+    commands.add_ratios(parser, "those of a network are in its text")
     parser.add_argument("--seed", type=int, default=1, help="a whole number (1 without it)")
     parser.add_argument("--results", metavar="FOLDER", help="where the losses are kept as they come: what was stopped goes on from there")
 
@@ -98,6 +139,8 @@ def _draw(chosen: argparse.Namespace) -> int:
     from . import losses
 
     scenario = commands.scenario(chosen.file, chosen.ratios)
+    if not scenario.ratio_lines():
+        raise ArgumentError(f"{chosen.file} has no reception ratios to draw losses by: give --ratios CSV, or a network text, which has them below a line `ratios`")
     try:
         drawn = losses.draw(scenario, chosen.seed, results=chosen.results, progress=True)
     except losses.TooManyLosses as error:
@@ -112,7 +155,7 @@ def _add_sweep(listed: Commands) -> None:
         "Runs many scenarios and writes one table: of each file of a folder, or of one file with losses drawn by each seed. A sweep "
         "that was stopped goes on where it was if it is given the same folder of results; what has changed since is made anew.",
     )  # fmt: skip
-    parser.add_argument("path", metavar="PATH", help="a folder with files *.scenario, or with --ratios a scenario")
+    parser.add_argument("path", metavar="PATH", help="a folder with files *.scenario, a network with its ratios, or with --ratios a scenario")
     commands.add_ratios(parser, "with it PATH is one scenario")
     commands.add_runs(parser, "1-10")
     commands.add_receivers(parser)
@@ -123,24 +166,25 @@ def _add_sweep(listed: Commands) -> None:
     parser.add_argument("--json", action="store_true", help="write JSON with the versions of package and program, in place of CSV")
 
 
-def _drawing(file: str, ratios: str, seed: int) -> losses.Drawing:
-    """The scenario of a file with ratios, whose losses are drawn by a seed; where it is too long for a log, it is counted. In the process
+def _drawing(file: str, ratios: str | None = None, seed: int = 1) -> losses.Drawing:
+    """The scenario of a file with its ratios or those of a table, whose losses are drawn by a seed; where it is too long for a log, it is counted. In the process
     of a worker."""
-    from . import counts, lines, losses, tables
+    from . import counts, lines, losses
 
-    made = tables.set_ratios(Scenario.read(Path(file)), ratios)
+    made = commands.scenario(file, ratios)
     return (counts.Sampled if len(made.nodes) * made.frames > lines.NODE_FRAMES_MOST else losses.Drawing)(made, seed)
 
 
 def _cases(chosen: argparse.Namespace) -> tuple[sweep.Build, list[dict[str, object]]]:
     """What builds the scenarios of a sweep, and the cases."""
     path = Path(chosen.path)
-    if chosen.ratios:
+    if chosen.ratios or (path.is_file() and commands.is_network(commands.read(chosen.path))):
         if not path.is_file():
             raise ArgumentError(f"{path} is no file; with --ratios a scenario is named, whose losses are drawn")
-        return _drawing, sweep.grid(file=[chosen.path], ratios=[chosen.ratios], seed=commands.seeds(chosen.seeds))
+        of_table = {"ratios": [chosen.ratios]} if chosen.ratios else {}
+        return _drawing, sweep.grid(file=[chosen.path], **of_table, seed=commands.seeds(chosen.seeds))
     if path.is_file():
-        raise ArgumentError(f"{path} is a single scenario: give --ratios CSV to draw its losses by seeds, or name a folder")
+        raise ArgumentError(f"{path} is a single scenario: give --ratios CSV to draw its losses by seeds, or name a folder, or a network with its ratios")
     if not path.is_dir():
         raise ArgumentError(f"{path} is no folder")
     cases: list[dict[str, object]] = [dict(case) for case in sweep.files(path)]
@@ -176,9 +220,10 @@ def _add_explain(listed: Commands) -> None:
 
 def _explain(chosen: argparse.Namespace) -> int:
     text = commands.read(chosen.file)
-    # `bus` reads what `run` reads, and is faster.
-    program.execute(["bus" if chosen.command == "run" else chosen.command], text)
-    cautions = Scenario.read(text).cautions() if chosen.command == "run" else []
+    # `bus` reads what `run` reads, and is faster, and `outcome` reads networks.
+    has_ratios = chosen.command == "run" and commands.is_network(text)
+    program.execute(["outcome", "1"] if has_ratios else ["bus" if chosen.command == "run" else chosen.command], text)
+    cautions = of(Scenario.read(text), long=has_ratios) if chosen.command == "run" else []
     for caution in cautions:
         print(f"warning: {caution}")
     if not cautions:

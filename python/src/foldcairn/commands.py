@@ -9,16 +9,15 @@ import argparse
 import re
 import sys
 from collections.abc import Callable
-from pathlib import Path
-from typing import Any, TypeAlias
+from typing import IO, Any, NoReturn, TypeAlias
 
-from . import lines, tables
-from .arguments import ArgumentError
+from . import doubts, faults, lines, results, running, tables
+from .arguments import ArgumentError, did_you_mean
 from .receivers import ALL, HOSTS, Receivers
 from .scenario import Scenario
 
 # These types have no public names.
-Commands: TypeAlias = "argparse._SubParsersAction[argparse.ArgumentParser]"
+Commands: TypeAlias = "argparse._SubParsersAction[Any]"
 # A command, or a group of its options.
 Options: TypeAlias = "argparse.ArgumentParser | argparse._ArgumentGroup"
 
@@ -31,11 +30,33 @@ class Unreadable(Exception):
     """The input that is named can't be read; the message says why."""
 
 
+class Parser(argparse.ArgumentParser):
+    """A parser that asks for the nearest word where one is not known: a command, an option, or a choice of one."""
+
+    def parse_args(self, args: Any = None, namespace: Any = None) -> Any:
+        """The words as `argparse` takes them; what is left of them is told with the usage of its command."""
+        chosen, left = self.parse_known_args(args, namespace)
+        if left:
+            parser: Parser = getattr(chosen, "parser", self)
+            options = re.findall(r"--[a-z-]+", parser.format_usage())
+            near = did_you_mean(left[0].partition("=")[0], options) if left[0].startswith("-") else ""
+            parser.error(f"{left[0]!r} is no word of this command{near}")
+        return chosen
+
+    def error(self, message: str) -> NoReturn:
+        """Ends with the usage and what is wrong, with the choices that there are."""
+        wrong = re.fullmatch(r"argument (.+?): invalid choice: '(.*)' \(choose from (.*)\)", message, re.DOTALL)
+        if wrong:
+            choices = [word.strip(" '") for word in wrong[3].split(",")]
+            message = f"{wrong[1]} is {wrong[2]!r}, and not one of {', '.join(choices)}{did_you_mean(wrong[2], choices)}"
+        super().error(message)
+
+
 def add(commands: Commands, name: str, run: Callable[[argparse.Namespace], int], about: str) -> argparse.ArgumentParser:
     """Adds a command; in the list of commands it has the first sentence of what it is about."""
     # argparse fills in what follows a `%` in a help text, and in a description only `%(prog)`.
-    parser = commands.add_parser(name, help=first_sentence(about).replace("%", "%%"), description=about)
-    parser.set_defaults(run=run)
+    parser: argparse.ArgumentParser = commands.add_parser(name, help=first_sentence(about).replace("%", "%%"), description=about)
+    parser.set_defaults(run=run, parser=parser)
     return parser
 
 
@@ -46,7 +67,7 @@ def first_sentence(text: str) -> str:
 
 def add_file(parser: argparse.ArgumentParser, output: str | None = None) -> None:
     """The file with the scenario, and the one that is written, where it has a name."""
-    parser.add_argument("file", metavar="FILE", help="a scenario, or - for standard input")
+    parser.add_argument("file", metavar="FILE", help="a scenario or a network with its ratios, or - for standard input")
     if output is not None:
         parser.add_argument("-o", "--output", metavar="FILE", default=output, help=f"the file that is written ({output} without it)")
 
@@ -56,6 +77,11 @@ def add_window(parser: argparse.ArgumentParser) -> None:
     words = "seconds from the start of the run"
     parser.add_argument("--from", dest="start", type=float, default=0.0, metavar="S", help=f"{words} (0 without it)")
     parser.add_argument("--to", dest="end", type=float, metavar="S", help=f"{words} (its end without it)")
+
+
+def add_seed(parser: argparse.ArgumentParser) -> None:
+    """By what losses are drawn where a run is of one seed."""
+    parser.add_argument("--seed", type=int, metavar="N", help="draw the losses of a network's ratios by this seed, a whole number (1 without it)")
 
 
 def add_ratios(parser: Options, words: str) -> None:
@@ -157,16 +183,50 @@ def places(made: Scenario, path: str | None) -> dict[int, tuple[float, float]] |
     return None if path is None else tables.positions(path, made)
 
 
-def read(path: str) -> bytes:
-    """The text of a file, or of the standard input where it is `-`. Raises `Unreadable` where it can't be read."""
+def log(path: str, seed: int | None) -> results.Log:
+    """The log of a run of a file. Where it has reception ratios, losses are drawn by the seed first. Raises `Failed` where there are too
+    many, and `ArgumentError` where a seed is given and there is nothing to draw."""
+    from . import losses
+
+    text = read(path)
+    if not is_network(text):
+        if seed is not None:
+            raise ArgumentError(f"`--seed` is {seed}, and {path} has no reception ratios to draw losses by; leave it out, or give a network")
+        return results.log(text)
+    if seed is None:
+        doubts.warn(["the losses are drawn by seed 1, which is one of many; --seed N takes another, and `sample` says how likely it is"])
     try:
-        return sys.stdin.buffer.read() if path == "-" else Path(path).read_bytes()
+        return running.run(text, seed=1 if seed is None else seed, progress=False)
+    except losses.TooManyLosses as error:
+        raise Failed(str(error)) from error
+
+
+def is_network(text: bytes) -> bool:
+    """Whether a text has a line `ratios`, below which there are reception ratios."""
+    return ["ratios"] in faults.split(text)
+
+
+def read(path: str) -> bytes:
+    """The text of a file, or of the standard input where it is `-`. Raises `Unreadable` where it can't be read, and `ArgumentError` where
+    it is larger than any text that is run; no more of it is read than shows that."""
+    try:
+        if path == "-":
+            return _limited(sys.stdin.buffer, "the input")
+        with open(path, "rb") as file:
+            return _limited(file, f"'{path}'")
     except IsADirectoryError:
         raise Unreadable("the input is a folder, not a file" if path == "-" else f"'{path}' is a folder, not a file") from None
     except FileNotFoundError:
         raise Unreadable(f"there is no file '{path}'") from None
     except OSError as error:
         raise Unreadable(f"the file '{path}' can't be read: {error.strerror}") from error
+
+
+def _limited(file: IO[bytes], called: str) -> bytes:
+    data = file.read(lines.TEXT_BYTES_MOST + 1)
+    if len(data) > lines.TEXT_BYTES_MOST:
+        raise ArgumentError(f"{called} has more than {lines.TEXT_BYTES_MOST:,} bytes, which are the most that are read")
+    return data
 
 
 def extent(words: str | None) -> tuple[float, float, float, float] | None:

@@ -7,7 +7,7 @@ from __future__ import annotations
 
 import argparse
 
-from . import commands, results
+from . import commands
 from .commands import Commands
 
 
@@ -26,6 +26,7 @@ def _add_timeline(listed: Commands) -> None:
         "and the steps of floods from some 60 ms down. The file's ending says whether it is SVG, PNG or PDF.",
     )  # fmt: skip
     commands.add_file(parser, "timeline.svg")
+    commands.add_seed(parser)
     commands.add_window(parser)
     parser.add_argument("--nodes", metavar="NODE,NODE,..", help="only these nodes, by their ids or names")
 
@@ -33,7 +34,7 @@ def _add_timeline(listed: Commands) -> None:
 def _timeline(chosen: argparse.Namespace) -> int:
     from . import plot
 
-    log = results.log(commands.read(chosen.file))
+    log = commands.log(chosen.file, chosen.seed)
     nodes = commands.nodes(chosen.nodes) if chosen.nodes else None
     plot.save(plot.timeline(log, start_seconds=chosen.start, end_seconds=chosen.end, nodes=nodes), chosen.output)
     return 0
@@ -72,13 +73,14 @@ def _add_pcap(listed: Commands) -> None:
         "command that reads it, with the Lua script that decodes its packets.",
     )  # fmt: skip
     commands.add_file(parser, "run.pcap")
+    commands.add_seed(parser)
     commands.add_window(parser)
 
 
 def _pcap(chosen: argparse.Namespace) -> int:
     from . import export
 
-    count = export.pcap(results.log(commands.read(chosen.file)), chosen.output, start_seconds=chosen.start, end_seconds=chosen.end)
+    count = export.pcap(commands.log(chosen.file, chosen.seed), chosen.output, start_seconds=chosen.start, end_seconds=chosen.end)
     print(f"{chosen.output}: {count} packets; read it by tshark -X lua_script:{export.dissector()} -r {chosen.output}")
     return 0
 
@@ -90,12 +92,13 @@ def _add_trace(listed: Commands) -> None:
         "with .gz is compressed.",
     )  # fmt: skip
     commands.add_file(parser, "trace.json.gz")
+    commands.add_seed(parser)
     commands.add_window(parser)
 
 
 def _trace(chosen: argparse.Namespace) -> int:
     from . import export
 
-    count = export.trace(results.log(commands.read(chosen.file)), chosen.output, start_seconds=chosen.start, end_seconds=chosen.end)
+    count = export.trace(commands.log(chosen.file, chosen.seed), chosen.output, start_seconds=chosen.start, end_seconds=chosen.end)
     print(f"{chosen.output}: {count} events")
     return 0

@@ -44,7 +44,7 @@ def _add(listed: Commands, name: str, run: Any, about: str, files: str, seeds: s
     if files:
         parser.add_argument("files", metavar="[NAME=]FILE", nargs="+", help=files)
     else:
-        parser.add_argument("file", metavar="FILE", help="a scenario, or - for standard input")
+        commands.add_file(parser)
     commands.add_ratios(parser, "without it nothing is lost but what the text says")
     commands.add_receivers(parser)
     commands.add_runs(parser, seeds)

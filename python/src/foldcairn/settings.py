@@ -7,8 +7,9 @@ from __future__ import annotations
 
 import base64
 import json
+import math
 import os
-from collections.abc import Mapping
+from collections.abc import Callable, Mapping
 from dataclasses import asdict, dataclass, field
 from pathlib import Path
 from typing import Any
@@ -19,6 +20,10 @@ from .results import Log
 from .scenario import Scenario
 
 Places = Mapping[int, tuple[float, float]]
+# Whether a value of JSON is of a kind.
+Kind = Callable[[Any], bool]
+# How many letters of what is wrong are shown.
+_SHOWN_MOST = 60
 # What a page can be given, and words that other calls and the command line have for it.
 _WORDS = ("title", "site", "plan", "notes", "positions", "receivers", "battery", "background", "extent")
 _OTHER_WORDS = {"places": "positions", "sinks": "receivers", "capacity_mah": "battery", "name": "title"}
@@ -71,10 +76,16 @@ class Settings:
 
     @classmethod
     def read(cls, text: str) -> Settings:
-        """The settings of a text that `text` gave. Raises `ArgumentError` where it is none."""
+        """The settings of a text that `text` gave. Raises `ArgumentError` where it is none, which names what is wrong first."""
         try:
-            return cls(**json.loads(text))
-        except (ValueError, TypeError) as error:
+            given = json.loads(text)
+            if not isinstance(given, dict):
+                raise ValueError(f"it is no object but {str(given)[:_SHOWN_MOST]}")
+            for name, value in given.items():
+                if name in _KINDS and not _KINDS[name](value):
+                    raise ValueError(f"`{name}` is {str(value)[:_SHOWN_MOST]}, and no page saves it so")
+            return cls(**given)
+        except (ValueError, TypeError, RecursionError) as error:
             raise ArgumentError(f"these are no settings of a page: {error}") from error
 
     def text(self) -> str:
@@ -104,6 +115,72 @@ class Settings:
     def picture(self) -> bytes | None:
         """The bytes of the background."""
         return base64.b64decode(self.background) or None
+
+
+def _is_text(value: Any) -> bool:
+    return isinstance(value, str)
+
+
+def _is_whole(value: Any) -> bool:
+    return type(value) is int
+
+
+def _is_number(value: Any) -> bool:
+    return type(value) in (int, float) and math.isfinite(value)
+
+
+def _is_ratio(value: Any) -> bool:
+    return _is_number(value) and 0 <= value <= 1
+
+
+def _is_list(value: Any, *kinds: Kind) -> bool:
+    """Whether it is a list of so many values of these kinds."""
+    return isinstance(value, list) and len(value) == len(kinds) and all(kind(one) for kind, one in zip(kinds, value))
+
+
+def _are_lists(*kinds: Kind) -> Kind:
+    """Whether a value is a list of such lists."""
+    return lambda value: isinstance(value, list) and all(_is_list(one, *kinds) for one in value)
+
+
+def _is_picture(value: Any) -> bool:
+    try:
+        return _is_text(value) and bool(base64.b64decode(value, validate=True) or not value)
+    except ValueError:
+        return False
+
+
+def _is_battery(value: Any) -> bool:
+    """Numbers by their words; what is of several nodes is a list."""
+    return isinstance(value, dict) and all(_is_number(one) or isinstance(one, list) and all(map(_is_whole, one)) for one in value.values())
+
+
+def _are_nodes(value: Any) -> bool:
+    """Receivers that are no mapping."""
+    return value is None or _is_text(value) or _is_whole(value) or isinstance(value, list) and all(_is_text(one) or _is_whole(one) for one in value)
+
+
+def _are_receivers(value: Any) -> bool:
+    def is_source(one: Any) -> bool:
+        return _is_text(one) or _is_whole(one) or _is_list(one, lambda node: _is_text(node) or _is_whole(node), _is_whole)
+
+    return _are_nodes(value) or isinstance(value, dict) and list(value) == ["by stream"] and _are_lists(is_source, _are_nodes)(value["by stream"])
+
+
+# What each of the settings is in JSON.
+_KINDS: dict[str, Kind] = {
+    **dict.fromkeys(("title", "site", "plan", "notes"), _is_text),
+    "positions": lambda value: value is None or _are_lists(_is_whole, _is_number, _is_number)(value),
+    "receivers": _are_receivers,
+    "battery": _is_battery,
+    "background": _is_picture,
+    "extent": lambda value: value is None or _is_list(value, *[_is_number] * 4),
+    "ratios": _are_lists(_is_whole, _is_whole, _is_ratio),
+    "later_ratios": _are_lists(_is_whole, _is_whole, _is_whole, _is_ratio),
+    "labels": _are_lists(_is_whole, _is_text),
+    "keep_alive": _are_lists(_is_whole, _is_whole),
+    "seed": lambda value: value is None or _is_whole(value),
+}
 
 
 def _plain(receivers: Any) -> Any:
