@@ -106,6 +106,9 @@ def test_nodes_are_given_by_their_names() -> None:
     for call in (lambda: made.off("s1"), lambda: made.stream("s1", 9), lambda: made.every(9, "s1"), lambda: made.unlink("s1", "gw")):
         with pytest.raises(ScenarioError, match="the scenario has no node s1; it has 3 nodes: gw, S1, A-101; did you mean S1?"):
             call()
+    # A name may have digits alone, as on the command line, where it comes as a number.
+    made.labels[3] = "101"
+    assert made.id(101) == made.id("101") == 3 and made.id(3) == 3
     with pytest.raises(ScenarioError, match="`on 0 gw`: 'gw', the id of the node, is a whole number from 1 to 200"):
         two().on("gw")
     with pytest.raises(ValueError, match="`receivers` is 'host', and neither .* nor the name of a node; did you mean hosts?"):

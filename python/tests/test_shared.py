@@ -100,18 +100,18 @@ def test_receivers_that_come_once(log: results.Log) -> None:
 
 def test_seeds_that_come_once() -> None:
     """Also as an array, whose numbers are numpy's."""
-    plain = [1, 2]
-    for given in (lambda: (seed for seed in plain), lambda: numpy.arange(1, 3), lambda: pandas.Series(plain)):
-        found = planning.sample(network(), given(), receivers=once(), progress=False)
-        assert found.network().equals(planning.sample(network(), plain, receivers=WHOM, progress=False).network())
-        cuts = planning.importance(network(), seeds=given(), receivers=once(), candidates=((one, one + 1) for one in (1, 2)), progress=False)
-        assert cuts.equals(planning.importance(network(), seeds=plain, receivers=WHOM, candidates=[(1, 2), (2, 3)], progress=False))
-        room = planning.capacity(network(), 30, seeds=given(), sources=once(), progress=False)
-        assert room.equals(planning.capacity(network(), 30, seeds=plain, sources=WHOM, progress=False))
-        for by in ("log", "sample"):
-            plans = {"A": network(), "B": replace(network(), sends=1)}
-            told = report.compare(plans, seeds=given(), receivers=once(), by=by, progress=False)
-            assert told.table.equals(report.compare(plans, seeds=plain, receivers=WHOM, by=by, progress=False).table)
+    plain, plans = [1, 2], {"A": network(), "B": replace(network(), sends=1)}
+    given = (lambda: (seed for seed in plain), lambda: numpy.arange(1, 3), lambda: pandas.Series(plain))
+    room = planning.capacity(network(), 60, seeds=plain, sources=[2], progress=False)
+    assert planning.capacity(network(), 60, seeds=given[1](), sources=(node for node in [2]), progress=False).equals(room)
+    for by, ways in (("sample", given), ("log", given[:1])):
+        expected = report.compare(plans, seeds=plain, receivers=WHOM, by=by, progress=False).table
+        assert all(report.compare(plans, seeds=way(), receivers=once(), by=by, progress=False).table.equals(expected) for way in ways)
+    expected = planning.sample(network(), plain, receivers=WHOM, progress=False).delivery_ratio()
+    assert all(planning.sample(network(), way(), receivers=once(), progress=False).delivery_ratio().equals(expected) for way in given)
+    expected = planning.importance(network(), seeds=plain, receivers=WHOM, candidates=[(1, 2)], progress=False)
+    for way in given:
+        assert planning.importance(network(), seeds=way(), receivers=once(), candidates=(link for link in [(1, 2)]), progress=False).equals(expected)
 
 
 def test_hosts_and_links_that_come_once() -> None:

@@ -41,7 +41,7 @@ def test_other_names_of_columns(tmp_path: Path, head: str) -> None:
         ({"nodes": "id,host\n1,0\n2,\n3,1\nA1,\n"}, "the table of nodes, row 4: `id` is 'A1', and has to be a whole number"),
         ({"links": LINKS + "1,A1,0.9\n"}, "the table of links, row 5: `to` is 'A1', and has to be a whole number"),
         ({"nodes": NODES + "2,\n"}, "the table of nodes, row 4: node 2 is given already, by row 2"),
-        ({"links": LINKS + "2,1,0.7\n"}, "row 5: the link from 2 to 1 has the ratio 0.7, and row 2 gives it 0.8: write one row with their mean, or give the time of"),
+        ({"links": LINKS + "2,1,0.7\n"}, "row 5: the link from 2 to 1 has the ratio 0.7, and row 2 gives it 0.8: write one row with their mean, or"),
         ({"links": LINKS.replace("prr", "PRR")}, "the table of links has the column 'PRR', which is not read: do you mean prr?"),
         ({"links": LINKS.replace("from", "From")}, "the column 'From', which is not read: do you mean from?"),
         ({"streams": STREAMS.replace("interval", "intervall")}, "'intervall', which is not read: do you mean interval?"),

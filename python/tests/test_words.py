@@ -66,6 +66,12 @@ def test_names_that_are_nearly_others(tmp_path: Path, capsys: pytest.CaptureFixt
     assert status == 1 and "did you mean A-101?" in err
 
 
+def test_a_warning_comes_once(capsys: pytest.CaptureFixture[str]) -> None:
+    for _ in range(2):
+        status, _, err = said(["sample", str(NETWORK), "--seeds", "2", "--jobs", "1", "--capacity-mah", "2.6"], capsys)
+        assert status == 0 and err.count("if 2.6 is in Ah, write 2600") == 1
+
+
 # Inputs.
 
 

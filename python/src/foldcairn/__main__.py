@@ -55,7 +55,7 @@ def main(arguments: Sequence[str] | None = None) -> int:
         add(listed)
     chosen = parser.parse_args(arguments)
     sys.stdout = sys.stdout or _Closed()  # type: ignore[assignment]
-    warnings.showwarning = _show_warning
+    warnings.showwarning = partial(_show_warning, set())
     warnings.simplefilter("always", ScenarioWarning)
     try:
         with ending.by_exception():
@@ -107,7 +107,11 @@ def _in_words(error: OSError) -> str:
     return f"{error.strerror}: '{os.fsdecode(error.filename)}'" if error.strerror and isinstance(error.filename, (str, bytes)) else str(error)
 
 
-def _show_warning(message: Warning | str, *_: object, **__: object) -> None:
+def _show_warning(shown: set[str], message: Warning | str, *_: object, **__: object) -> None:
+    """Shows a warning, each once: several tables may be of one number."""
+    if str(message) in shown:
+        return
+    shown.add(str(message))
     print(f"foldcairn: warning: {message}", file=sys.stderr)
 
 
@@ -140,7 +144,9 @@ def _draw(chosen: argparse.Namespace) -> int:
 
     scenario = commands.scenario(chosen.file, chosen.ratios)
     if not scenario.ratio_lines():
-        raise ArgumentError(f"{chosen.file} has no reception ratios to draw losses by: give --ratios CSV, or a network text, which has them below a line `ratios`")
+        raise ArgumentError(
+            f"{chosen.file} has no reception ratios to draw losses by: give --ratios CSV, or a network text, which has them below a line `ratios`"
+        )
     try:
         drawn = losses.draw(scenario, chosen.seed, results=chosen.results, progress=True)
     except losses.TooManyLosses as error:
@@ -167,8 +173,8 @@ def _add_sweep(listed: Commands) -> None:
 
 
 def _drawing(file: str, ratios: str | None = None, seed: int = 1) -> losses.Drawing:
-    """The scenario of a file with its ratios or those of a table, whose losses are drawn by a seed; where it is too long for a log, it is counted. In the process
-    of a worker."""
+    """The scenario of a file with its ratios, or those of a table, whose losses are drawn by a seed; where it is too long for a log, it is
+    counted. In the process of a worker."""
     from . import counts, lines, losses
 
     made = commands.scenario(file, ratios)
@@ -184,7 +190,9 @@ def _cases(chosen: argparse.Namespace) -> tuple[sweep.Build, list[dict[str, obje
         of_table = {"ratios": [chosen.ratios]} if chosen.ratios else {}
         return _drawing, sweep.grid(file=[chosen.path], **of_table, seed=commands.seeds(chosen.seeds))
     if path.is_file():
-        raise ArgumentError(f"{path} is a single scenario: give --ratios CSV to draw its losses by seeds, or name a folder, or a network with its ratios")
+        raise ArgumentError(
+            f"{path} is a single scenario: give --ratios CSV to draw its losses by seeds, or name a folder, or a network with its ratios"
+        )
     if not path.is_dir():
         raise ArgumentError(f"{path} is no folder")
     cases: list[dict[str, object]] = [dict(case) for case in sweep.files(path)]

@@ -9,7 +9,8 @@ import argparse
 import re
 import sys
 from collections.abc import Callable
-from typing import IO, Any, NoReturn, TypeAlias
+from pathlib import Path
+from typing import Any, NoReturn, TypeAlias
 
 from . import doubts, faults, lines, results, running, tables
 from .arguments import ArgumentError, did_you_mean
@@ -210,22 +211,16 @@ def read(path: str) -> bytes:
     """The text of a file, or of the standard input where it is `-`. Raises `Unreadable` where it can't be read, and `ArgumentError` where
     it is larger than any text that is run; no more of it is read than shows that."""
     try:
-        if path == "-":
-            return _limited(sys.stdin.buffer, "the input")
-        with open(path, "rb") as file:
-            return _limited(file, f"'{path}'")
+        is_long = path != "-" and Path(path).is_file() and Path(path).stat().st_size > lines.TEXT_BYTES_MOST
+        data = b"" if is_long else Path(path).read_bytes() if path != "-" else sys.stdin.buffer.read(lines.TEXT_BYTES_MOST + 1)
     except IsADirectoryError:
         raise Unreadable("the input is a folder, not a file" if path == "-" else f"'{path}' is a folder, not a file") from None
     except FileNotFoundError:
         raise Unreadable(f"there is no file '{path}'") from None
     except OSError as error:
         raise Unreadable(f"the file '{path}' can't be read: {error.strerror}") from error
-
-
-def _limited(file: IO[bytes], called: str) -> bytes:
-    data = file.read(lines.TEXT_BYTES_MOST + 1)
-    if len(data) > lines.TEXT_BYTES_MOST:
-        raise ArgumentError(f"{called} has more than {lines.TEXT_BYTES_MOST:,} bytes, which are the most that are read")
+    if is_long or len(data) > lines.TEXT_BYTES_MOST:
+        raise ArgumentError(f"{'the input' if path == '-' else repr(path)} has more than {lines.TEXT_BYTES_MOST:,} bytes, which are the most that are read")
     return data
 
 

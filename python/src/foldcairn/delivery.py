@@ -217,7 +217,7 @@ def deadline(
     """
     keys = _keys(by, *_KEYS)
     seconds = arguments.real("seconds", seconds, above=0)
-    doubts.warn(doubts.of_deadline(log.scenario, seconds))
+    doubts.warn(doubts.of_deadline(log.scenario, seconds), 5)
     pairs = _within(log, _pairs(log, receivers), start_seconds, end_seconds)
     pairs["due"] = pairs["put_seconds"] + seconds <= log.scenario.seconds
     pairs["in_time"] = pairs["due"] & (pairs["delivered_seconds"] - pairs["put_seconds"] <= seconds)

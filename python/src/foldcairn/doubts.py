@@ -26,12 +26,12 @@ _USUAL = {
 }  # fmt: skip
 
 
-def warn(words: Iterable[str]) -> None:
-    """Gives a `ScenarioWarning` of each."""
+def warn(words: Iterable[str], level: int = 3) -> None:
+    """Gives a `ScenarioWarning` of each, of the call that is so many levels up: 3 is that of the function that warns."""
     from .scenario import ScenarioWarning
 
     for one in words:
-        warnings.warn(one, ScenarioWarning, stacklevel=4)
+        warnings.warn(one, ScenarioWarning, stacklevel=level)
 
 
 def of_period(scenario: Scenario, node: int, stream: int, seconds: float, left: float) -> Iterator[str]:

@@ -223,7 +223,7 @@ def lives_of(
     capacity_mah = arguments.real("capacity_mah", capacity_mah, 0)
     transmit_ma, receive_ma = arguments.real("transmit_ma", transmit_ma, 0), arguments.real("receive_ma", receive_ma, 0)
     sleep_ma = arguments.real("sleep_ma", sleep_ma, 0)
-    doubts.warn(doubts.of_battery(capacity_mah=capacity_mah, transmit_ma=transmit_ma, receive_ma=receive_ma, sleep_ma=sleep_ma))
+    doubts.warn(doubts.of_battery(capacity_mah=capacity_mah, transmit_ma=transmit_ma, receive_ma=receive_ma, sleep_ma=sleep_ma), 6)
     powered = table["powered_seconds"].where(table["powered_seconds"] > 0)
 
     def mean_current(on: pd.Series) -> pd.Series:

@@ -30,6 +30,8 @@ __all__ = [
 ]  # fmt: skip
 
 Link = tuple[int, int]
+# A node as calls take it: by its id, or by its name where it has one.
+Node = int | str
 
 # How a comment begins that is no remark: a name of a node, or by what the losses of a text were drawn, and which of them were not.
 KEPT = "#:"
@@ -83,7 +85,7 @@ class Scenario:
     What follows is for the answers about a run, and the program does not know it. A text has it as comments, but for `remarks`.
     receivers   for whom packets are meant, in the forms of `foldcairn.receivers` (`sinks` sets it); None: for all nodes
     keep_alive  the streams that are kept alive by packets of no bytes (`stream(.., keep_alive=..)`), which no answer counts
-    labels      id -> name, where nodes have names: tables and pictures show them in place of the ids
+    labels      id -> name, where nodes have names: tables and pictures show them in place of the ids, and calls take them
     places      id -> (x, y), the places of nodes for maps, in any unit, upwards; a map is laid out by the links where a node has none
     remarks     what was left in doubt as it was built, in sentences; `cautions` has them too
     seed        by which `losses.draw` has drawn the losses; None: by none
@@ -152,7 +154,7 @@ class Scenario:
             self._ratio(sender, receiver, ratio)
 
     @staticmethod
-    def _ratio(sender: int, receiver: int, ratio: Any) -> float:
+    def _ratio(sender: Node, receiver: Node, ratio: Any) -> float:
         try:
             return arguments.real("prr", ratio, 0, 1)
         except ArgumentError as error:
@@ -240,7 +242,7 @@ class Scenario:
         self._tell()
         return self.rate(node, ppm) if ppm != 0 else self
 
-    def rate(self, node: int, ppm: int, *, tick: int | None = None, seconds: float | None = None) -> Self:
+    def rate(self, node: Node, ppm: int, *, tick: int | None = None, seconds: float | None = None) -> Self:
         """From that tick (1/64 µs of true time, 0 without one) or second on the node's clock gains `ppm` parts per million."""
         if tick is not None and seconds is not None:
             raise ScenarioError("a time is given as a tick or in seconds, not as both")
@@ -249,7 +251,7 @@ class Scenario:
         self.rates.append(Rate(node, at, ppm))
         return self
 
-    def host(self, rank: int, node: int) -> Self:
+    def host(self, rank: int, node: Node) -> Self:
         """The node is the host of that rank: 0 is the first choice, 1 to 3 are backups."""
         rank, node = self._numbers("host", rank, node)
         if rank in self.hosts or node in self.hosts.values():
@@ -257,7 +259,7 @@ class Scenario:
         self.hosts[rank] = node
         return self
 
-    def link(self, sender: int, receiver: int, prr: float = 1.0) -> Self:
+    def link(self, sender: Node, receiver: Node, prr: float = 1.0) -> Self:
         """What the sender transmits reaches the receiver, at the ratio `prr` of 0 to 1."""
         sender, receiver = self._numbers("link", sender, receiver)
         ratio = self._ratio(sender, receiver, prr)
@@ -268,12 +270,12 @@ class Scenario:
             self.prr.pop((sender, receiver), None)
         return self
 
-    def pair(self, one: int, other: int, prr: float = 1.0) -> Self:
+    def pair(self, one: Node, other: Node, prr: float = 1.0) -> Self:
         """Both links between two nodes, each at the ratio `prr` of 0 to 1."""
         return self.link(one, other, prr).link(other, one, prr)
 
     def ratio(
-        self, sender: int, receiver: int, prr: float, *, frame: int | None = None, seconds: float | None = None
+        self, sender: Node, receiver: Node, prr: float, *, frame: int | None = None, seconds: float | None = None
     ) -> Self:
         """From that time on (from the start of the run without one), until a later ratio of it, this link passes what the sender
         transmits at the ratio `prr` of 0 to 1, which counts in millionths, rounded. The other direction keeps its own."""
@@ -313,7 +315,7 @@ class Scenario:
         made.seed, made.drawn = None, set()
         return made
 
-    def unlink(self, one: int, other: int) -> Self:
+    def unlink(self, one: Node, other: Node) -> Self:
         """Takes out the links between two nodes, in both directions, and their ratios, losses and captures."""
         one, other = self.id(one), self.id(other)
         gone = {(one, other), (other, one)}
@@ -324,21 +326,21 @@ class Scenario:
         self.captures = [capture for capture in self.captures if (capture.sender, capture.at) not in gone]
         return self
 
-    def on(self, *nodes: int, frame: int | None = None, seconds: float | None = None) -> Self:
+    def on(self, *nodes: Node, frame: int | None = None, seconds: float | None = None) -> Self:
         """These nodes, or all that are given so far, are switched on at the start of that frame (0 without a time)."""
         return self._power(On, "on", nodes, self._frame(frame, seconds))
 
-    def off(self, *nodes: int, frame: int | None = None, seconds: float | None = None) -> Self:
+    def off(self, *nodes: Node, frame: int | None = None, seconds: float | None = None) -> Self:
         """These nodes, or all that are given so far, are switched off at the start of that frame (0 without a time)."""
         return self._power(Off, "off", nodes, self._frame(frame, seconds))
 
-    def _power(self, line: type[On] | type[Off], word: str, nodes: Sequence[int], frame: int) -> Self:
+    def _power(self, line: type[On] | type[Off], word: str, nodes: Sequence[Node], frame: int) -> Self:
         for node in nodes or sorted(self.nodes):
             self.script.append(line(*self._numbers(word, frame, node)))
         return self
 
     def stream(
-        self, node: int, interval: int, *, stream: int = 0, frame: int | None = None, seconds: float | None = None,
+        self, node: Node, interval: int, *, stream: int = 0, frame: int | None = None, seconds: float | None = None,
         keep_alive: float | None = None,
     ) -> Self:  # fmt: skip
         """Stream 0 to 3 of the node requests a slot every `interval` seconds (1 to 120) from that frame on.
@@ -375,7 +377,8 @@ class Scenario:
     def id(self, node: int | str) -> int:
         """The id of a node, which is given by its id or its name. Raises `ScenarioError` where there is no such node."""
         named = {name: one for one, name in self.labels.items()}
-        found = named.get(node, node) if isinstance(node, str) else node
+        # A name may have digits alone, and come as a number.
+        found = named.get(str(node), node) if isinstance(node, str) or node not in self.nodes else node
         if isinstance(found, str) or found not in self.nodes:
             known = ", ".join(str(named) for named in list(self.labels.values() or sorted(self.nodes))[:8])
             near = arguments.did_you_mean(node, self.labels.values()) if isinstance(node, str) else ""
@@ -390,13 +393,13 @@ class Scenario:
         """A stream in few letters: its node's name and its number, as "7.0"."""
         return f"{self.name(node)}.{stream}"
 
-    def leave(self, node: int, *, stream: int = 0, frame: int | None = None, seconds: float | None = None) -> Self:
+    def leave(self, node: Node, *, stream: int = 0, frame: int | None = None, seconds: float | None = None) -> Self:
         """Stream 0 to 3 of the node ends in that frame, and its queue is emptied."""
         self.script.append(Leave(*self._numbers("leave", self._frame(frame, seconds), node, stream)))
         return self
 
     def put(
-        self, node: int, payload: bytes = b"", *, stream: int = 0, frame: int | None = None, seconds: float | None = None
+        self, node: Node, payload: bytes = b"", *, stream: int = 0, frame: int | None = None, seconds: float | None = None
     ) -> Self:
         """The node's stream gets a packet to send at the start of that frame."""
         try:
@@ -409,7 +412,7 @@ class Scenario:
     def every(
         self,
         seconds: float,
-        node: int,
+        node: Node,
         payload: bytes | Callable[[int], bytes] | None = None,
         *,
         stream: int = 0,
@@ -440,20 +443,21 @@ class Scenario:
                 content = payload(count) if callable(payload) else payload
             self.put(node, content, stream=stream, seconds=time)
             count += 1
-        self.remarks.extend(doubts.of_period(self, node, stream, seconds, end - start))
+        if count:
+            self.remarks.extend(doubts.of_period(self, self.id(node), stream, seconds, end - start))
         return self
 
-    def lose(self, frame: int, slot: int, step: int, sender: int, receiver: int) -> Self:
+    def lose(self, frame: int, slot: int, step: int, sender: Node, receiver: Node) -> Self:
         """The link is lost in that step (0 to 11) of that slot of the frame."""
         self.losses.append(Loss(*self._numbers("lose", frame, slot, step, sender, receiver)))
         return self
 
-    def cut(self, frame: int, slot: int, step: int, node: int) -> Self:
+    def cut(self, frame: int, slot: int, step: int, node: Node) -> Self:
         """All links to and from the node are lost from that step of that slot on until the frame ends."""
         self.cuts.append(Cut(*self._numbers("cut", frame, slot, step, node)))
         return self
 
-    def capture(self, frame: int, slot: int, step: int, at: int, sender: int) -> Self:
+    def capture(self, frame: int, slot: int, step: int, at: Node, sender: Node) -> Self:
         """Where unlike packets reach `at` at once in that step of that slot, it receives that of `sender`."""
         self.captures.append(Capture(*self._numbers("capture", frame, slot, step, at, sender)))
         return self

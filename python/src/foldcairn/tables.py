@@ -260,7 +260,8 @@ def _add_links(scenario: Scenario, frame: pandas.DataFrame, adds: bool) -> None:
     if len(times) > 1:
         raise ScenarioError(f"the table of links has the times {' and '.join(times)}; keep one of these columns")
     step = _Links(scenario, adds, _RATIO in frame.columns or not adds, times[0] if times else "")
-    each(frame, "links", ("from", "to"), step.note)
+    if step.time == "timestamp":
+        each(frame, "links", ("from", "to"), step.note)
     each(frame, "links", ("from", "to"), step.add)
     if step.time == "timestamp":
         step.hold_first()
@@ -281,12 +282,11 @@ class _Links:
 
     def note(self, row: Mapping[str, Any]) -> None:
         """Takes the earliest time stamp for the start of the run."""
-        if self.time == "timestamp":
-            stamp = cells.stamp("timestamp", row["timestamp"])
-            try:
-                self.start = stamp if self.start is None else min(self.start, stamp)
-            except TypeError as error:
-                raise ArgumentError(f"`timestamp` is {row['timestamp']}, and others have no time zone, or this has none; write all alike") from error
+        stamp = cells.stamp("timestamp", row["timestamp"])
+        try:
+            self.start = stamp if self.start is None else min(self.start, stamp)
+        except TypeError as error:
+            raise ArgumentError(f"`timestamp` is {row['timestamp']}, and others have no time zone, or this has none; write all alike") from error
 
     def add(self, row: Mapping[str, Any]) -> None:
         """Adds the link of the next row, or both of a pair."""
@@ -326,13 +326,11 @@ class _Links:
         return self.scenario.frame_at(seconds)
 
     def _twice(self, link: Link, ratio: float, earlier: int, before: float) -> str:
-        named = f"the link from {self.scenario.name(link[0])} to {self.scenario.name(link[1])}"
+        one, other = map(self.scenario.name, link)
+        told = f"the link from {one} to {other} has the ratio {ratio:g}, and row {earlier} gives it {before:g}"
         if self.time:
-            return f"{named} has the ratio {ratio:g}, and row {earlier} gives it {before:g} in the same frame of {self.scenario.frame_seconds} s: write their mean"
-        return (
-            f"{named} has the ratio {ratio:g}, and row {earlier} gives it {before:g}: write one row with their mean, or give the time of each in a "
-            "column timestamp, seconds or frame"
-        )
+            return f"{told} in the same frame of {self.scenario.frame_seconds} s: write their mean"
+        return f"{told}: write one row with their mean, or give the time of each in a column timestamp, seconds or frame"
 
     def hold_first(self) -> None:
         """Lets the first sample of a link hold from the start of the run on."""
