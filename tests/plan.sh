@@ -405,6 +405,7 @@ many_ratios() {
 endless_seeds() {
     local line="$top/tests/worked/three-in-a-line.network"
     "$program" sample 0 1 < "$line" > "$folder/wanted"
+    # shellcheck disable=SC2154 # tests/counted_calls.sh sets it.
     (ulimit -v 30000; timeout 60 "$uncounted" sample 0 9999999999999 < "$line"; echo $? > "$folder/status") | sed '/^seed 1$/Q' > "$folder/out"
     says "the first of endless seeds is another text, or none" cmp -s "$folder/wanted" "$folder/out"
     says "endless seeds for a closed pipe: status $(cat "$folder/status"), not 4" [ "$(cat "$folder/status")" -eq 4 ]
