@@ -3,7 +3,11 @@ and within its time."""
 
 from __future__ import annotations
 
+import ctypes
+import functools
+import multiprocessing
 import os
+import pickle
 import signal
 import subprocess
 import sys
@@ -12,6 +16,7 @@ import time
 from collections.abc import Callable
 from concurrent.futures import Executor, Future, ProcessPoolExecutor
 from pathlib import Path
+from unittest.mock import Mock
 
 import pytest
 from conftest import REPOSITORY
@@ -88,12 +93,20 @@ def test_large_calls_go_by_files(tmp_path: Path, monkeypatch: pytest.MonkeyPatch
     monkeypatch.setattr("tempfile.tempdir", str(tmp_path))
     text, found, there = "x" * 100_000, [], 0
     with executors.running(None) as runner:
-        ahead = [(number, executors.functools.partial(length, text, number)) for number in range(20)]
+        ahead = [(number, functools.partial(length, text, number)) for number in range(20)]
         for name, came in executors.done(runner, ahead):
             found.append((name, came))
             there = max(there, sum(path.stat().st_size for path in tmp_path.rglob("*")))
     assert sorted(found) == [(number, (100_000, number)) for number in range(20)]
     assert 100_000 < there < 130_000 and list(tmp_path.iterdir()) == []
+
+
+def test_a_call_by_files_is_the_call() -> None:
+    with executors._Parcels(True) as parcels:
+        large = parcels.call(functools.partial(length, "x" * 100_000, 3))
+        assert large() == (100_000, 3) and len(pickle.dumps(large)) < 300
+        parcels.forget(large)
+        assert parcels.call(functools.partial(length, "x", 3))() == (1, 3)
 
 
 # Signals.
@@ -134,6 +147,22 @@ def test_handlers_that_are_there_stay() -> None:
     thread.start()
     thread.join()
     assert reached == [signal.SIG_DFL]
+
+
+def test_a_worker_begins(monkeypatch: pytest.MonkeyPatch) -> None:
+    """It gets SIGTERM when its parent ends, and ends at once where that has ended by then."""
+    library, parent = Mock(), Mock()
+    monkeypatch.setattr(ctypes, "CDLL", lambda name: library)
+    monkeypatch.setattr(multiprocessing, "parent_process", lambda: parent)
+    try:
+        ending.with_parent(-1)
+        assert library.prctl.call_args.args == (1, signal.SIGTERM, 0, 0, 0)
+        assert signal.getsignal(signal.SIGTERM) is signal.getsignal(signal.SIGHUP) is ending._raise
+        parent.is_alive.return_value = False
+        with pytest.raises(ending.Ended):
+            ending.with_parent(-1)
+    finally:
+        signal.signal(signal.SIGTERM, signal.SIG_DFL), signal.signal(signal.SIGHUP, signal.SIG_DFL)
 
 
 def test_a_call_that_is_ended_is_no_answer(monkeypatch: pytest.MonkeyPatch) -> None:
