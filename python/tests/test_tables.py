@@ -111,6 +111,8 @@ def test_names_that_are_numbers_of_no_other_node(tmp_path: Path) -> None:
     nodes = pandas.DataFrame({"id": [1, 2, 3], "name": [101.0, 102.0, 103.0]})
     read = Scenario.from_tables(nodes, pandas.DataFrame({"from": [101.0, 1], "to": [102, 3.0]}), frames=4)
     assert read.labels == {1: "101", 2: "102", 3: "103"} and read.links == {(1, 2), (1, 3)}
+    with pytest.raises(ScenarioError, match="row 2: `id` is 2.5, and has to be a whole number"):
+        Scenario.from_tables(pandas.DataFrame({"id": [1, 2.5]}), pandas.DataFrame({"from": [], "to": []}), frames=4)
     # A column of names in which nothing stands is none.
     assert made(tmp_path, "id,name\n1,\n2,\n", "from,to\n1,2\n").labels == {}
 

@@ -2,6 +2,7 @@
 
 from __future__ import annotations
 
+import errno
 import io
 import json
 import os
@@ -140,6 +141,20 @@ def test_outputs_that_cannot_be_written() -> None:
     assert (told.returncode, told.stderr) == (4, b"foldcairn: the output could not be written whole: Broken pipe\n")
     told = ended(["explain", str(LINE)], preexec_fn=lambda: os.close(1))
     assert (told.returncode, told.stderr) == (4, b"foldcairn: the output could not be written whole: it is closed\n")
+
+
+def test_outputs_that_break(capsys: pytest.CaptureFixture[str], monkeypatch: pytest.MonkeyPatch) -> None:
+    """The same in this process."""
+
+    class Broken(io.StringIO):
+        def write(self, _: str) -> int:
+            raise BrokenPipeError(errno.EPIPE, "Broken pipe")
+
+    for output, says in ((Broken(), "Broken pipe"), (None, "it is closed")):
+        with monkeypatch.context() as patched:
+            patched.setattr(sys, "stdout", output)
+            status = main(["explain", str(LINE)])
+        assert status == 4 and capsys.readouterr().err == f"foldcairn: the output could not be written whole: {says}\n"
 
 
 def test_a_stop_while_the_libraries_are_read() -> None:
