@@ -384,7 +384,8 @@ def test_a_stream_that_the_next_host_never_accepts_is_in_the_main_numbers() -> N
     assert planning.summary(FAILOVER)["never_accepted"] == 0
     assert any("later hosts never accepted 1 of 1" in sentence for sentence in findings.of(log))
     assert not any("never accepted" in sentence for sentence in findings.of(log_of(FAILOVER)))
-    assert "<b>1</b>times that a stream was never accepted by a host" in page._numbers(log, settings.Settings())
+    words = "times that a stream was never accepted by a host, over all hosts"
+    assert {"value": "1", "words": words} in page._numbers(log, settings.Settings())
 
 
 # Windows that meet after a clock was set back.

@@ -44,7 +44,7 @@ def test_compare(folder: Path, capsys: pytest.CaptureFixture[str], undrawn: None
     assert "of what was put was delivered at whichever host serves" in told[1]
     page = (folder / "both.html").read_text()
     assert "Site: North slope" in page and "For the &lt;council&gt;." in page and "hosts: cellar (rank 0), stairs (rank 1)" in page
-    assert "<h2>What was run</h2><p>Seeds: 1, 2. " in page and f"<code>{program.checksum()}</code>" in page
+    assert "<p>Seeds: 1, 2. " in page and f"<code>{program.checksum()}</code>" in page
     assert len(set(re.findall("its ratios is <code>([0-9a-f]{64})</code>", page))) == 2
     assert "The radios of plan B where its host fails" in page and len(list((folder / "kept").iterdir())) == 4
     # What is kept gives the same once more.
@@ -148,7 +148,7 @@ def test_seeds_without_an_answer_are_told() -> None:
     assert (joined["A"], joined["B"], joined["better"], joined["missing"]) == (46, 26, "", "B in 1 of 2 seeds")
     outage = rows.loc["longest outage at a change of hosts, or to the end"]
     assert (outage["better"], outage["missing"]) == ("B", "")
-    assert "none: B in 1 of 2 seeds</th>" in compare._answers(rows.reset_index(), ["A", "B"], [1, 2])
+    assert [row["missing"] for row in compare._rows(rows.reset_index(), ["A", "B"]) if row["missing"]] == ["B in 1 of 2 seeds"]
 
 
 @pytest.mark.parametrize(

@@ -21,6 +21,7 @@ try:
     from .arguments import ArgumentError
     from .commands import Commands
     from .scenario import Scenario, ScenarioWarning
+    from .visible import csv, visible
 except ModuleNotFoundError as error:
     sys.exit(f"foldcairn: {front_end.missing(error)}")
 
@@ -55,7 +56,7 @@ def main(arguments: Sequence[str] | None = None) -> int:
         print(f"foldcairn: {error}", file=sys.stderr)
         return _UNREADABLE
     except (program.ProgramError, commands.Failed, sweep.SweepStopped, OSError, ValueError) as error:
-        print(f"foldcairn: {error}", file=sys.stderr)
+        print(visible(f"foldcairn: {error}"), file=sys.stderr)
     except KeyboardInterrupt:
         print("foldcairn: stopped", file=sys.stderr)
         return 130
@@ -63,7 +64,7 @@ def main(arguments: Sequence[str] | None = None) -> int:
 
 
 def _show_warning(message: Warning | str, *_: object, **__: object) -> None:
-    print(f"foldcairn: warning: {message}", file=sys.stderr)
+    print(visible(f"foldcairn: warning: {message}"), file=sys.stderr)
 
 
 class _Version(argparse.Action):
@@ -98,7 +99,7 @@ def _draw(chosen: argparse.Namespace) -> int:
         drawn = losses.draw(scenario, chosen.seed, results=chosen.results, progress=True)
     except losses.TooManyLosses as error:
         raise commands.Failed(str(error)) from error
-    sys.stdout.write(drawn.text())
+    commands.say(drawn.text())
     return 0
 
 
@@ -155,7 +156,7 @@ def _sweep(chosen: argparse.Namespace) -> int:
     measures: dict[str, sweep.Measure] = {"planning": partial(planning.summary, receivers=whom), "sums": sweep.summary}
     with plans.workers(chosen.jobs) as pool:
         table = sweep.sweep(build, cases, measures[chosen.measure], executor=pool, results=chosen.results)
-    sys.stdout.write(report.as_json({"cases": table}, table.attrs) if chosen.json else table.to_csv(index=False))
+    commands.say(report.as_json({"cases": table}, table.attrs) if chosen.json else csv(table))
     return 0 if (table.status == "ok").all() else _FAILED
 
 
@@ -176,7 +177,7 @@ def _explain(chosen: argparse.Namespace) -> int:
     program.execute(["bus" if chosen.command == "run" else chosen.command], text)
     cautions = Scenario.read(text).cautions() if chosen.command == "run" else []
     for caution in cautions:
-        print(f"warning: {caution}")
+        commands.say(f"warning: {caution}\n")
     if not cautions:
         print("accepted, and nothing to remark")
     return 0

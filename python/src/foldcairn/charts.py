@@ -41,12 +41,12 @@ def delivery(
         drawn.set_facecolor(style.OFF)
         ratios = table.to_numpy(dtype="float64")
         image = drawn.imshow(ratios, cmap=SCALE, vmin=0, vmax=1, aspect="auto")
-        drawn.set_xticks(range(table.shape[1]), [str(node) for node in table.columns])
+        drawn.set_xticks(range(table.shape[1]), [str(node) for node in table.columns], parse_math=False)
         # Where a cell has its own count, no count of the stream is needed.
         counts = pairs.groupby(["source", "stream"])["put"].max() if "put" in pairs and table.shape[1] > _COUNTS_MOST else None
         packets = {} if counts is None else counts.to_dict()
         names = [name + (f" ({packets[key]:g})" if key in packets else "") for key, name in zip(table.index, _names(table.index))]
-        drawn.set_yticks(range(len(table)), names)
+        drawn.set_yticks(range(len(table)), names, parse_math=False)
         drawn.set_xlabel("receiving node")
         drawn.set_ylabel(_of_streams(table.index) + (", and how many packets it put" if packets else ""))
         words = _cells(pairs, table)
@@ -119,7 +119,7 @@ def latency(deliveries: pd.DataFrame, *, title: str | None = None, axes: Axes | 
             boxprops={"facecolor": "#9ec5e8", "edgecolor": style.RECEIVES}, medianprops={"color": style.TRANSMITS, "linewidth": 1.8},
             whiskerprops={"color": style.RECEIVES}, capprops={"color": style.RECEIVES},
         )  # fmt: skip
-        drawn.set_xticks(range(1, len(names) + 1), names)
+        drawn.set_xticks(range(1, len(names) + 1), names, parse_math=False)
         drawn.set_ylim(bottom=0)
         drawn.grid(axis="y", color=style.FAINT, linewidth=0.5)
         drawn.set_xlabel(_of_streams(groups.groups))
@@ -144,7 +144,7 @@ def energy(times: pd.DataFrame, *, title: str | None = None, axes: tuple[Axes, A
         _stack(left, table, list(radio.PURPOSES))
         _stack(right, table, [purpose for purpose in radio.PURPOSES if purpose != "searching"])
         for drawn in (left, right):
-            drawn.set_yticks(range(len(table)), [node if isinstance(node, str) else f"node {node}" for node in table.index])
+            drawn.set_yticks(range(len(table)), [node if isinstance(node, str) else f"node {node}" for node in table.index], parse_math=False)
             drawn.set_ylim(len(table) - 0.4, -0.6)
             drawn.set_xlabel("seconds with the radio on")
         left.set_title(title or "Time with the radio on")
@@ -194,7 +194,7 @@ def outages(streams: pd.DataFrame, *, title: str | None = None, axes: Axes | Non
         ):
             for number, seconds in enumerate(sorted(streams[name].dropna().unique())):
                 drawn.axvline(seconds, color=colour, linestyle=line, linewidth=1.4, zorder=1, label=None if number else words)
-        drawn.set_yticks(range(len(names)), _names(names))
+        drawn.set_yticks(range(len(names)), _names(names), parse_math=False)
         drawn.set_ylim(len(names) - 0.4, -0.6)
         drawn.set_xlim(low - 0.03 * (high - low), high + 0.12 * (high - low))
         drawn.set_xlabel("seconds from the start of the run")

@@ -16,6 +16,7 @@ from . import tables
 from .arguments import ArgumentError
 from .receivers import ALL, HOSTS, Receivers
 from .scenario import Scenario
+from .visible import visible
 
 # These types have no public names.
 Commands: TypeAlias = "argparse._SubParsersAction[argparse.ArgumentParser]"
@@ -151,6 +152,11 @@ def set_ratios(made: Scenario, path: str | None) -> Scenario:
 def places(made: Scenario, path: str | None) -> dict[int, tuple[float, float]] | None:
     """The places of `--places`; where its nodes have names, the scenario gets these."""
     return None if path is None else tables.positions(path, made)
+
+
+def say(text: str) -> None:
+    """Writes a text on standard output, in which nothing is an escape code of a terminal."""
+    sys.stdout.write(visible(text))
 
 
 def read(path: str) -> bytes:

@@ -3,7 +3,6 @@
 from __future__ import annotations
 
 import functools
-import html
 import math
 import os
 from collections.abc import Callable, Mapping, Sequence
@@ -16,7 +15,8 @@ import numpy as np
 import pandas as pd
 from numpy.typing import NDArray
 
-from . import arguments, files, findings, intervals, lines, losses, page, planning, plot, results as runs, sample, seeds as many, service, sweep, tallies
+from . import arguments, files, findings, intervals, lines, losses, markup, page, planning, plot, results as runs, sample
+from . import seeds as many, service, sweep, tallies
 from .arguments import ArgumentError
 from .receivers import Receivers, meant
 from .results import Log
@@ -208,61 +208,29 @@ def _page(
     positions: Mapping[int, tuple[float, float]] | None,
 ) -> str:  # fmt: skip
     about = {name: page.about(logs[name]) if name in logs else page.about_network(network) for name, network in plans.items()}
-    listed = [f"{html.escape(name)}: {html.escape(words)}" for name, words in about.items()]
-    own = "".join(f"<p>{html.escape(part.strip())}</p>" for part in notes.split("\n\n") if part.strip())
-    parts = [
-        f"<h1>{html.escape(title)}</h1>",
-        f'<p class="where">Site: {html.escape(site)}</p>' if site else "",
-        f'<div class="notes">{own}</div>' if own else "",
-        "<ul>" + "".join(f"<li>{line}</li>" for line in listed) + "</ul>",
-        _answers(table, list(plans), seeds),
-        *(f'<section class="figure"><h2>The network, plan {html.escape(name)}</h2>{_map(one, positions)}</section>' for name, one in plans.items()),
+    pictures = [
+        *(markup.picture(f"The network, plan {name}", functools.partial(plot.topology, one, positions=positions)) for name, one in plans.items()),
         *(_failure(name, log) for name, log in logs.items()),
-        _origin(table.attrs),
     ]
-    css = (Path(__file__).parent / "page.css").read_text(encoding="utf-8")
-    head = f'<meta charset="utf-8"><meta name="viewport" content="width=device-width"><title>{html.escape(title)}</title>'
-    body = "\n".join(part for part in parts if part)
-    return f'<!DOCTYPE html>\n<html lang="en"><head>{head}<style>\n{css}</style></head>\n<body>\n{body}\n</body></html>\n'
+    return markup.page(
+        "compare.html", title=title, site=site, notes=markup.paragraphs(notes), about=about, rows=_rows(table, list(plans)), pictures=pictures,
+        many=f"{len(seeds)} seeds" if len(seeds) > 1 else "one seed, which gives no interval", origin=table.attrs,
+    )  # fmt: skip
 
 
-def _answers(table: pd.DataFrame, plans: list[str], seeds: Sequence[int]) -> str:
-    """The table, with the better plan marked."""
-    heads = "".join(f"<th>{html.escape(word)}</th>" for word in ("", *plans, "better"))
-    rows = []
-    for row in table.to_dict("records"):
-        cells = [_cell(row[plan], row[f"{plan} ±"], row["unit"], row["better"] == plan) for plan in plans]
-        none = f"<br>none: {html.escape(row['missing'])}" if row["missing"] else ""
-        rows.append(f"<tr><th>{html.escape(row['answer'])}{none}</th>{''.join(cells)}<td>{html.escape(row['better'] or '–')}</td></tr>")
-    many = f"{len(seeds)} seeds" if len(seeds) > 1 else "one seed, which gives no interval"
-    return (
-        f'<h2>The answers</h2><p>Means over {many}, with the interval in which the mean lies with 95 %. A plan is marked where its '
-        "interval is better than each other's; where none is, more seeds may tell. Where some seeds have no answer, the mean is that of the "
-        "others, and no plan is marked.</p>"
-        f'<table class="plans"><thead><tr>{heads}</tr></thead><tbody>{"".join(rows)}</tbody></table>'
-    )
+def _rows(table: pd.DataFrame, plans: list[str]) -> list[dict[str, Any]]:
+    """The rows of the table of answers, with the cells of the plans, and which of them is the best."""
+    return [
+        {**row, "cells": [{"words": _cell(row[plan], row[f"{plan} ±"], row["unit"]), "best": row["better"] == plan} for plan in plans]}
+        for row in table[["answer", "unit", "better", "missing", *plans, *(f"{plan} ±" for plan in plans)]].to_dict("records")
+    ]
 
 
-def _origin(attrs: Mapping[Any, Any]) -> str:
-    """What was run, by which anyone can make the same runs again."""
-    texts = "".join(f"<li>Plan {html.escape(name)}: the SHA-256 of its text with its ratios is <code>{one}</code>.</li>" for name, one in attrs["text"].items())
-    return (
-        f"<h2>What was run</h2><p>Seeds: {', '.join(map(str, attrs['seeds']))}. The SHA-256 of the program is <code>{attrs['program']}</code>. "
-        f"It is proved to follow its rules; this page and its numbers are by the Python package {html.escape(attrs['package'])}, which is "
-        f"tested, not proved.</p><ul>{texts}</ul>"
-    )
+def _cell(mean: float, half: float, unit: str) -> str:
+    return "–" if math.isnan(mean) else f"{mean:.1f} {unit}" if math.isnan(half) else f"{mean:.1f} ± {half:.1f} {unit}"
 
 
-def _cell(mean: float, half: float, unit: str, best: bool) -> str:
-    told = "–" if math.isnan(mean) else f"{mean:.1f} {unit}" if math.isnan(half) else f"{mean:.1f} ± {half:.1f} {unit}"
-    return f'<td class="best">{told}</td>' if best else f"<td>{told}</td>"
-
-
-def _map(network: Scenario, positions: Mapping[int, tuple[float, float]] | None) -> str:
-    return page.picture("The network", lambda: plot.topology(network, positions=positions))
-
-
-def _failure(name: str, log: Log) -> str:
+def _failure(name: str, log: Log) -> markup.Picture:
     """The radios around the first change of hosts, or to the end where none takes over; the whole run if the host never fails."""
     changes = service.outages(log)
     start, end = 0.0, float(log.scenario.seconds)
@@ -272,5 +240,4 @@ def _failure(name: str, log: Log) -> str:
         last = first["first_delivery_seconds"] if first["ended"] else end
         start, end = max(0.0, begun - 60.0), min(end, last + 60.0)
     told = f"The radios of plan {name} where its host fails" if len(changes) else f"The radios of plan {name}, whose host never fails"
-    shown = page.picture(told, lambda: plot.timeline(log, start_seconds=start, end_seconds=end))
-    return f'<section class="figure"><h2>{html.escape(told)}</h2>{shown}</section>'
+    return markup.picture(told, lambda: plot.timeline(log, start_seconds=start, end_seconds=end))

@@ -18,7 +18,7 @@ _SHOWN_MOST = 6
 
 def node(scenario: Scenario, one: int) -> str:
     """A node in a sentence: its name, or "node 7"."""
-    return scenario.labels.get(one, f"node {one}")
+    return scenario.name(one) if one in scenario.labels else f"node {one}"
 
 
 def nodes(scenario: Scenario, several: Iterable[int]) -> str:

@@ -6,6 +6,7 @@ Tested, not proved.
 from __future__ import annotations
 
 import argparse
+import shlex
 
 from . import commands, results
 from .commands import Commands
@@ -79,7 +80,8 @@ def _pcap(chosen: argparse.Namespace) -> int:
     from . import export
 
     count = export.pcap(results.log(commands.read(chosen.file)), chosen.output, start_seconds=chosen.start, end_seconds=chosen.end)
-    print(f"{chosen.output}: {count} packets; read it by tshark -X lua_script:{export.dissector()} -r {chosen.output}")
+    command = shlex.join(["tshark", "-X", f"lua_script:{export.dissector()}", "-r", chosen.output])
+    commands.say(f"{chosen.output}: {count} packets; read it by {command}\n")
     return 0
 
 
@@ -97,5 +99,5 @@ def _trace(chosen: argparse.Namespace) -> int:
     from . import export
 
     count = export.trace(results.log(commands.read(chosen.file)), chosen.output, start_seconds=chosen.start, end_seconds=chosen.end)
-    print(f"{chosen.output}: {count} events")
+    commands.say(f"{chosen.output}: {count} events\n")
     return 0

@@ -9,7 +9,6 @@ from __future__ import annotations
 import argparse
 import contextlib
 import json
-import sys
 from collections.abc import Iterator
 from concurrent.futures import Executor, ProcessPoolExecutor
 from pathlib import Path
@@ -59,9 +58,9 @@ def _add(listed: Commands, name: str, run: Any, about: str, files: str, seeds: s
 def _write(table: pd.DataFrame, as_json: bool) -> int:
     """Writes a table on standard output."""
     if as_json:
-        sys.stdout.write(json.dumps(json.loads(table.to_json(orient="records", double_precision=15)), indent=1) + "\n")
+        commands.say(json.dumps(json.loads(table.to_json(orient="records", double_precision=15)), indent=1) + "\n")
     else:
-        sys.stdout.write(table.to_string(index=False, float_format=lambda number: f"{number:.3f}", na_rep="-") + "\n")
+        commands.say(table.to_string(index=False, float_format=lambda number: f"{number:.3f}", na_rep="-") + "\n")
     return 0
 
 
@@ -91,9 +90,9 @@ def _sample(chosen: argparse.Namespace) -> int:
     if chosen.html:
         found.write(chosen.html, title=Path(chosen.file).stem, **battery)
     elif chosen.json:
-        sys.stdout.write(report.as_json(found.tables(**battery), program.versions()))
+        commands.say(report.as_json(found.tables(**battery), program.versions()))
     else:
-        sys.stdout.write(report.shown(found.tables(**battery), sample_page.titles(found, battery)))
+        commands.say(report.shown(found.tables(**battery), sample_page.titles(found, battery)))
     return 0
 
 

@@ -9,7 +9,6 @@ from __future__ import annotations
 import argparse
 import json
 import os
-import sys
 from collections.abc import Mapping
 from pathlib import Path
 from typing import TYPE_CHECKING, Any
@@ -22,6 +21,7 @@ from .events import Off, On, Put, Stream
 from .receivers import Receivers
 from .scenario import Scenario
 from .settings import Settings
+from .visible import csv
 
 if TYPE_CHECKING:
     from .compare import Comparison
@@ -151,9 +151,9 @@ def main(chosen: argparse.Namespace) -> int:
     if chosen.csv:
         write(answers, Path(chosen.csv))
     if chosen.json:
-        sys.stdout.write(as_json(answers, program.versions()))
+        commands.say(as_json(answers, program.versions()))
     elif not chosen.csv:
-        sys.stdout.write(shown(answers, titles(log.scenario, settings.whom(), settings.battery)))
+        commands.say(shown(answers, titles(log.scenario, settings.whom(), settings.battery)))
     return 0
 
 
@@ -186,10 +186,11 @@ def shown(tables: dict[str, pd.DataFrame], titles: Mapping[str, str] = SHOWN) ->
 
 
 def write(tables: dict[str, pd.DataFrame], folder: Path) -> None:
-    """A file NAME.csv for each table in this folder, which is made if it is not there; files of these names are replaced."""
+    """A file NAME.csv for each table in this folder, which is made if it is not there; files of these names are replaced. Texts are as
+    `visible.csv` has them."""
     folder.mkdir(parents=True, exist_ok=True)
     for name, table in tables.items():
-        files.write(folder / f"{name}.csv", table.to_csv(index=False).encode())
+        files.write(folder / f"{name}.csv", csv(table).encode())
 
 
 def as_json(tables: dict[str, pd.DataFrame], versions: dict[str, str]) -> str:

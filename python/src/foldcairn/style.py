@@ -44,6 +44,8 @@ _SETTINGS = {
     "text.color": INK, "axes.labelcolor": INK, "xtick.color": INK, "ytick.color": INK, "axes.edgecolor": FAINT,
     "axes.facecolor": GROUND, "figure.facecolor": GROUND, "legend.frameon": False, "legend.fontsize": 8.5,
     "svg.fonttype": "none", "svg.hashsalt": "foldcairn", "path.simplify": False,
+    # A name may have dollars, and is no formula.
+    "text.parse_math": False,
 }  # fmt: skip
 
 

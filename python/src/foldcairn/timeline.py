@@ -13,7 +13,7 @@ from matplotlib.path import Path
 from matplotlib.ticker import MaxNLocator
 from numpy.typing import NDArray
 
-from . import arguments, style, timing
+from . import arguments, findings, style, timing
 from .results import Log
 from .rounds import rounds
 from .scenario import Scenario
@@ -79,9 +79,9 @@ def _of_round(log: Log, frame: int) -> tuple[float, float]:
 
 def _rows(drawn: Axes, scenario: Scenario, shown: list[int]) -> None:
     ranks = {node: rank for rank, node in scenario.hosts.items()}
-    named = {node: scenario.labels.get(node, f"node {node}") for node in shown}
+    named = {node: findings.node(scenario, node) for node in shown}
     names = [f"host {ranks[node]}, {named[node]}" if node in ranks else named[node] for node in shown]
-    drawn.set_yticks(range(len(shown)), names)
+    drawn.set_yticks(range(len(shown)), names, parse_math=False)
     drawn.set_ylim(len(shown) - 0.4, -0.6)
     drawn.spines["left"].set_visible(False)
 
