@@ -96,8 +96,9 @@ def _cells(pairs: pd.DataFrame, table: pd.DataFrame) -> list[list[str]]:
 
 
 def _percent(ratio: float) -> str:
-    """A ratio in percent, rounded down, so that 100 is all."""
-    return str(int(100 * ratio + 1e-9))
+    """A ratio in percent, rounded; 0 is none and 100 is all."""
+    rounded = int(100 * ratio + 0.5 + 1e-9)
+    return ">99" if rounded == 100 and ratio < 1 else "<1" if rounded == 0 and ratio > 0 else str(rounded)
 
 
 def latency(deliveries: pd.DataFrame, *, title: str | None = None, axes: Axes | None = None) -> Figure:

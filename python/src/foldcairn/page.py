@@ -28,7 +28,7 @@ import plotly.graph_objects as graph
 import plotly.offline
 from matplotlib.figure import Figure
 
-from . import arguments, files, findings, markup, meanings, notebook, planning, plot, radio, report, style, timing
+from . import arguments, files, findings, happens, markup, meanings, notebook, planning, plot, radio, report, style, timing, workload
 from .packets import Data, Packet, Request
 from .results import Log
 from .rounds import rounds
@@ -38,7 +38,7 @@ from .timeline import DETAIL_SECONDS
 from .version import version
 
 _HALF = 0.32
-_EVENTS_MOST = 20
+_EVENTS_MOST = 200
 # Seen on light and on dark ground.
 _OFF = "rgba(127, 140, 160, 0.2)"
 
@@ -80,7 +80,7 @@ def of_settings(log: Log, settings: Settings) -> str:
     return markup.page(
         "run.html", title=settings.title, site=settings.site, plan=settings.plan, notes=markup.paragraphs(settings.notes), about=about(log),
         findings=findings.of(log, receivers=settings.whom(), battery=settings.battery), numbers=_numbers(log, settings),
-        workload=notebook.workload(log.scenario), streams=markup.table(report.workload(log.scenario)), events=_events(log.scenario),
+        workload=notebook.workload(log.scenario), streams=markup.table(workload.table(log.scenario)), events=_events(log.scenario),
         detail=f"{DETAIL_SECONDS:g}", height=_height(log.scenario), timeline=markup.picture("The radios in the whole run", lambda: plot.timeline(log)),
         pictures=_pictures(log, settings), tables=_tables(log, settings), seed=log.scenario.seed,
         digest=hashlib.sha256(_bytes(scenario)).hexdigest(), program=log.origin.program, version=version(), packed=packed, code=markup.own("page.js"),
@@ -120,9 +120,9 @@ def about_network(scenario: Scenario) -> str:
 
 
 def _events(scenario: Scenario) -> list[str]:
-    """What happens to nodes, the first of it."""
-    told = report.events(scenario)
-    return told[:_EVENTS_MOST] + [f"and {len(told) - _EVENTS_MOST} more"] * (len(told) > _EVENTS_MOST)
+    """What happens after the start."""
+    told = happens.sentences(scenario)
+    return told[:_EVENTS_MOST] + [f"and {len(told) - _EVENTS_MOST} more, which the scenario has"] * (len(told) > _EVENTS_MOST)
 
 
 # The main numbers, with their unit and how they are shown.

@@ -17,7 +17,6 @@ import pandas as pd
 
 from . import commands, files, findings, planning, program, results
 from .commands import Commands
-from .events import Off, On, Put, Stream
 from .receivers import Receivers
 from .scenario import Scenario
 from .settings import Settings
@@ -69,42 +68,6 @@ def titles(scenario: Scenario, receivers: Receivers, battery: dict[str, float]) 
         "battery-life": f"{SHOWN['battery-life']} ({findings.battery_words(battery)})",
     }
     return {**SHOWN, **more}
-
-
-def workload(scenario: Scenario) -> pd.DataFrame:
-    """What is asked for and put: a row for all streams that are alike, with how many these are, the interval that they ask for in
-    seconds, how many packets each gets, how many seconds lie between two of them (the mean), their bytes, and the nodes."""
-    frames: dict[tuple[int, int], list[int]] = {}
-    sizes: dict[tuple[int, int], set[int]] = {}
-    intervals = {(event.node, event.stream): event.interval for event in scenario.script if isinstance(event, Stream)}
-    for event in scenario.script:
-        if isinstance(event, Put) and (event.payload or (event.node, event.stream) not in scenario.keep_alive):
-            frames.setdefault((event.node, event.stream), []).append(event.frame)
-            sizes.setdefault((event.node, event.stream), set()).add(len(event.payload))
-    alike: dict[tuple[Any, ...], list[int]] = {}
-    for key in sorted(intervals.keys() | frames.keys()):
-        size = sorted(sizes.get(key, ()))
-        shown = "–" if not size else str(size[0]) if len(size) == 1 else f"{size[0]} to {size[-1]}"
-        alike.setdefault((intervals.get(key, 0), len(frames.get(key, ())), shown, key in scenario.keep_alive), []).append(key[0])
-    rows = [
-        (len(nodes), interval, count, scenario.seconds / count if count else float("nan"), size, "yes" if kept else "no",
-         findings.nodes(scenario, nodes))
-        for (interval, count, size, kept), nodes in sorted(alike.items(), key=lambda item: -len(item[1]))
-    ]  # fmt: skip
-    names = ["streams", "interval asked (s)", "packets each", "seconds a packet", "bytes", "kept alive", "nodes"]
-    return pd.DataFrame(rows, columns=names)
-
-
-def events(scenario: Scenario) -> list[str]:
-    """What happens to the power of nodes after the start, a sentence for each time."""
-    happens: dict[tuple[int, str], list[int]] = {}
-    for event in sorted(scenario.script, key=lambda event: event.frame):
-        if isinstance(event, (On, Off)) and event.frame > 0:
-            happens.setdefault((event.frame, "off" if isinstance(event, Off) else "on"), []).append(event.node)
-    return [
-        f"At {frame * scenario.frame_seconds:,} s {findings.nodes(scenario, nodes)} {'is' if len(nodes) == 1 else 'are'} switched {word}."
-        for (frame, word), nodes in happens.items()
-    ]
 
 
 def add_command(listed: Commands) -> None:
