@@ -137,7 +137,7 @@ def test_no_escape_code_reaches_a_terminal(tmp_path: Path, capsys: pytest.Captur
         (["draw", "run.scenario", "--ratios", "links.csv"], 0), (["compare", "run.scenario", f"{ESCAPE}.scenario", "--seeds", "1", "--jobs", "1"], 0),
         (["importance", "run.scenario", "--of", "nodes", "--seeds", "1", "--jobs", "1"], 0), (["sweep", ".", "--jobs", "1"], 0),
         (["pcap", f"{ESCAPE}.scenario", "-o", f"{ESCAPE}.pcap"], 0), (["trace", "run.scenario", "-o", f"{ESCAPE}.json"], 0),
-        (["report", f"{ESCAPE}.txt"], 1), (["timeline", "run.scenario", "--nodes", ESCAPE + "4"], 1),
+        (["report", f"{ESCAPE}.txt"], 3), (["timeline", "run.scenario", "--nodes", ESCAPE + "4"], 1),
     ):  # fmt: skip
         assert main(words) == status, words
         told = capsys.readouterr()

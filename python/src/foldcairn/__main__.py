@@ -53,7 +53,7 @@ def main(arguments: Sequence[str] | None = None) -> int:
     except ModuleNotFoundError as error:
         print(f"foldcairn: {front_end.missing(error)}", file=sys.stderr)
     except commands.Unreadable as error:
-        print(f"foldcairn: {error}", file=sys.stderr)
+        print(visible(f"foldcairn: {error}"), file=sys.stderr)
         return _UNREADABLE
     except (program.ProgramError, commands.Failed, sweep.SweepStopped, OSError, ValueError) as error:
         print(visible(f"foldcairn: {error}"), file=sys.stderr)

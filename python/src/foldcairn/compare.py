@@ -214,7 +214,7 @@ def _page(
     ]
     return markup.page(
         "compare.html", title=title, site=site, notes=markup.paragraphs(notes), about=about, rows=_rows(table, list(plans)), pictures=pictures,
-        many=f"{len(seeds)} seeds" if len(seeds) > 1 else "one seed, which gives no interval", origin=table.attrs,
+        many=f"{len(seeds)} seeds" if len(seeds) > 1 else f"{findings.draw(seeds[0])}; it gives no interval", origin=table.attrs,
     )  # fmt: skip
 
 

@@ -28,6 +28,11 @@ def nodes(scenario: Scenario, several: Iterable[int]) -> str:
     return ", ".join(listed[:_SHOWN_MOST]) + more
 
 
+def draw(seed: int | None) -> str:
+    """By which draw of the losses an answer is; no words where none was drawn (None)."""
+    return "" if seed is None else f"one draw, seed {seed}"
+
+
 def whom(scenario: Scenario, receivers: Receivers) -> str:
     """For whom packets are meant, in words."""
     groups = list(meant(scenario, receivers).groups())

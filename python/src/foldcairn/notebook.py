@@ -60,7 +60,7 @@ def of_report(report: Report) -> str:
 
     scenario = report.scenario
     rows = [
-        ("run", f"{len(scenario.nodes)} nodes, {scenario.seconds:,} s" + ("" if scenario.seed is None else f", seed {scenario.seed}")),
+        ("run", f"{len(scenario.nodes)} nodes, {scenario.seconds:,} s" + ("" if report.origin.seed is None else f", one draw, seed {report.origin.seed}")),
         ("deliveries", f"{len(report.deliveries):,}, and {len(report.drops):,} packets dropped at once"),
     ]
     if isinstance(report, Log):

@@ -83,6 +83,7 @@ def of_settings(log: Log, settings: Settings) -> str:
         workload=notebook.workload(log.scenario), streams=markup.table(workload.table(log.scenario)), events=_events(log.scenario),
         detail=f"{DETAIL_SECONDS:g}", height=_height(log.scenario), timeline=markup.picture("The radios in the whole run", lambda: plot.timeline(log)),
         pictures=_pictures(log, settings), tables=_tables(log, settings), seed=log.scenario.seed,
+        draw=findings.draw(log.scenario.seed), undrawn=log.scenario.is_to_be_drawn,
         digest=hashlib.sha256(_bytes(scenario)).hexdigest(), program=log.origin.program, version=version(), packed=packed, code=markup.own("page.js"),
     )  # fmt: skip
 

@@ -9,6 +9,7 @@ from __future__ import annotations
 import argparse
 import json
 import os
+import re
 from collections.abc import Mapping
 from pathlib import Path
 from typing import TYPE_CHECKING, Any
@@ -16,6 +17,7 @@ from typing import TYPE_CHECKING, Any
 import pandas as pd
 
 from . import commands, files, findings, planning, program, results
+from .arguments import ArgumentError
 from .commands import Commands
 from .receivers import Receivers
 from .scenario import Scenario
@@ -60,14 +62,15 @@ def compare(plans: Mapping[str, Scenario], path: str | os.PathLike[str] | None =
 
 
 def titles(scenario: Scenario, receivers: Receivers, battery: dict[str, float]) -> dict[str, str]:
-    """The titles of the tables that are shown, with the receivers and the battery that are meant."""
+    """The titles of the tables that are shown, with the receivers and the battery that are meant, and the seed of the losses."""
     whom = findings.whom(scenario, receivers)
     more = {
         "delivery-by-stream": f"{SHOWN['delivery-by-stream']}, at {whom}",
         "latency-by-stream": f"{SHOWN['latency-by-stream']}, at {whom}",
         "battery-life": f"{SHOWN['battery-life']} ({findings.battery_words(battery)})",
     }
-    return {**SHOWN, **more}
+    draw = findings.draw(scenario.seed)
+    return {name: title + (f" ({draw})" if draw else "") for name, title in {**SHOWN, **more}.items()}
 
 
 def add_command(listed: Commands) -> None:
@@ -86,6 +89,8 @@ def add_command(listed: Commands) -> None:
         "--html", metavar="FILE", help="write one HTML file instead, with a timeline to zoom, pictures and the tables; it stands alone"
     )
     parser.add_argument("--json", action="store_true", help="write all tables as JSON, with the versions of package and program")
+    commands.add_ratios(parser, "losses are drawn by it, once; without it nothing is lost but what the text says")
+    parser.add_argument("--seed", type=int, metavar="N", help="the seed to draw losses by, a whole number (1 without it); `sample` has many seeds")
     commands.add_receivers(parser)
     commands.add_battery(parser)
     page = parser.add_argument_group("the page of --html")
@@ -93,7 +98,6 @@ def add_command(listed: Commands) -> None:
     page.add_argument("--site", default="", help="the name of the site, below the title")
     page.add_argument("--plan", default="", help="the name of the plan, below the title")
     page.add_argument("--notes", metavar="FILE", help="a text of your own, which stands at the top")
-    commands.add_ratios(page, "for the map alone")
     commands.add_places(page)
     page.add_argument("--background", metavar="PNG", help="a picture below the map; it needs --places")
     page.add_argument("--extent", metavar="L,R,B,T", help="where its left, right, lower and upper edges are, in the units of --places")
@@ -101,9 +105,9 @@ def add_command(listed: Commands) -> None:
 
 
 def main(chosen: argparse.Namespace) -> int:
-    """Writes the report; gives the exit status 0. Raises what `results.log` raises, and `OSError`."""
-    log = results.log(commands.read(chosen.file))
-    settings = _settings(log, chosen)
+    """Writes the report; gives the exit status 0. Raises what `results.log` raises, `commands.Failed` where there are too many losses, and
+    `OSError`."""
+    log, settings = _run(chosen)
     if chosen.html:
         from . import page
 
@@ -114,23 +118,51 @@ def main(chosen: argparse.Namespace) -> int:
     if chosen.csv:
         write(answers, Path(chosen.csv))
     if chosen.json:
-        commands.say(as_json(answers, program.versions()))
+        commands.say(as_json(answers, program.versions(), log.scenario.seed))
     elif not chosen.csv:
         commands.say(shown(answers, titles(log.scenario, settings.whom(), settings.battery)))
     return 0
 
 
-def _settings(log: results.Log, chosen: argparse.Namespace) -> Settings:
-    """The settings that the words of the command give."""
+def _run(chosen: argparse.Namespace) -> tuple[results.Log, Settings]:
+    """The run of the file, with losses drawn by its ratios, and the settings that the words of the command give."""
+    text = commands.read(chosen.file)
     if chosen.page:
-        settings = Settings.read(Path(chosen.page).read_text(encoding="utf-8"))
+        settings, log = Settings.read(Path(chosen.page).read_text(encoding="utf-8")), results.log(text)
         settings.give(log.scenario)
-        return settings
+        return log, settings
+    if chosen.ratios is None and chosen.seed is None and not re.search(rb"^ratios\b", text, re.MULTILINE):
+        # The program says what is wrong with a text by the lines of it.
+        log = results.log(text)
+        return log, _settings(log.scenario, commands.places(log.scenario, chosen.places), chosen)
+    network = Scenario.read(text)
     # First of all, since a table of ratios may have the names that this one gives.
-    positions = commands.places(log.scenario, chosen.places)
-    commands.set_ratios(log.scenario, chosen.ratios)
+    positions = commands.places(network, chosen.places)
+    log = results.log(_drawn(network, chosen), warn=False)
+    return log, _settings(log.scenario, positions, chosen)
+
+
+def _drawn(network: Scenario, chosen: argparse.Namespace) -> Scenario:
+    """The network with losses that are drawn once. Raises `ArgumentError` where its losses are drawn already, or it has no ratios."""
+    from . import losses
+
+    if network.seed is not None:
+        raise ArgumentError(f"the losses of {chosen.file} are drawn already, by seed {network.seed}: leave `--ratios` and `--seed` out")
+    commands.set_ratios(network, chosen.ratios)
+    if not network.is_to_be_drawn:
+        if chosen.seed is None:
+            return network
+        raise ArgumentError(f"{chosen.file} has no reception ratios, so there is nothing to draw by `--seed`: name them by `--ratios`")
+    try:
+        return losses.draw(network, 1 if chosen.seed is None else chosen.seed, progress=True)
+    except losses.TooManyLosses as error:
+        raise commands.Failed(str(error)) from error
+
+
+def _settings(scenario: Scenario, positions: dict[int, tuple[float, float]] | None, chosen: argparse.Namespace) -> Settings:
+    """The settings that the words of the command give."""
     return Settings.of(
-        log.scenario, title=chosen.title or Path(chosen.file).stem, site=chosen.site, plan=chosen.plan,
+        scenario, title=chosen.title or Path(chosen.file).stem, site=chosen.site, plan=chosen.plan,
         notes=Path(chosen.notes).read_text(encoding="utf-8") if chosen.notes else "",
         positions=positions, receivers=commands.receivers(chosen.receivers),
         battery=commands.battery(chosen), background=chosen.background,
@@ -156,7 +188,8 @@ def write(tables: dict[str, pd.DataFrame], folder: Path) -> None:
         files.write(folder / f"{name}.csv", csv(table).encode())
 
 
-def as_json(tables: dict[str, pd.DataFrame], versions: dict[str, str]) -> str:
-    """The tables as one JSON object: `versions`, and for each table a list with an object a row. What is missing is null."""
+def as_json(tables: dict[str, pd.DataFrame], versions: dict[str, str], seed: int | None = None) -> str:
+    """The tables as one JSON object: `versions`, the `seed` of one draw, and for each table a list with an object a row. What is missing is
+    null."""
     rows = {name: json.loads(table.to_json(orient="records", double_precision=15)) for name, table in tables.items()}
-    return json.dumps({"versions": versions, **rows}, indent=1) + "\n"
+    return json.dumps({"versions": versions, **({} if seed is None else {"seed": seed}), **rows}, indent=1) + "\n"

@@ -41,7 +41,7 @@ def text(sample: Sample, title: str, battery: Mapping[str, float]) -> str:
     named = titles(sample, battery)
     whole = named.pop("network")
     about = (
-        f"{page.about_network(scenario)} It was run with {len(sample.seeds):,} seeds. Each seed draws the losses anew from the "
+        f"{page.about_network(scenario)} It was run with {_many(sample.seeds)}. Each seed draws the losses anew from the "
         "reception ratios. A number has its mean over the seeds, the standard error of that, the interval in which the mean of all seeds lies "
         "with 95 % (from low to high), and quantiles over the seeds."
     )
@@ -57,6 +57,10 @@ def _meanings(table: pd.DataFrame) -> dict[str, str]:
     told = {**meanings.of_docstring(Sample.network), **meanings.of_docstring(intervals.over_seeds)}
     words = dict.fromkeys((*table["quantity"], *table.columns))
     return {word: told[word].rstrip(". ").replace("`", "") for word in words if word in told}
+
+
+def _many(seeds: Sequence[int]) -> str:
+    return f"{len(seeds):,} seeds" if len(seeds) > 1 else findings.draw(seeds[0])
 
 
 def _seeds(seeds: Sequence[int]) -> str:
