@@ -126,6 +126,23 @@ def test_settings_of_a_command(log: results.Log, given: dict[str, object], tmp_p
     assert main(["report", str(tmp_path / "failover.scenario"), "--receivers", "9"]) == 1
 
 
+def test_a_page_with_mains_a_target_and_cautions(tmp_path: Path, undrawn: None) -> None:
+    """Each is in the summary, and the page that is made again from its settings has them too."""
+    (tmp_path / "run.scenario").write_text(FAILOVER.replace("on 0 3\n", "on 0 3\non 0 4\n").replace("node 3 0\n", "node 3 0\nnode 4 0\n"))
+    path = tmp_path / "page.html"
+    words = ["report", str(tmp_path / "run.scenario"), "--mains", "1,2", "--target-days", "30"]
+    assert main([*words, "--html", str(path)]) == 0
+    told = path.read_text()
+    summary = told[told.index("<h2") : told.index("The workload")]
+    assert "on mains: node 1, node 2)" in summary and "0 of 2 batteries last the 30 days that are asked for" in summary
+    assert "<h3>Cautions</h3>" in summary and "node 4 has no link to or from any other node" in summary and "never joined a host: node 4" in summary
+    (tmp_path / "run.page.json").write_text(unpacked(told, "settings"))
+    assert main(["report", str(tmp_path / "run.scenario"), "--page", str(tmp_path / "run.page.json"), "--html", str(tmp_path / "again.html")]) == 0
+    assert (tmp_path / "again.html").read_text() == told
+    # A run of which nothing is to be remarked.
+    assert "Cautions" not in page.text(results.log(LINE_OF_TWO))
+
+
 def test_words_that_no_page_has(log: results.Log) -> None:
     with pytest.raises(ValueError, match="`battery` has 'mah', and not one of capacity_mah, transmit_ma"):
         page.text(log, battery={"mah": 3})
@@ -133,6 +150,7 @@ def test_words_that_no_page_has(log: results.Log) -> None:
         Settings.read("[]")
 
 
+LINE_OF_TWO = "frames 8\nsends 2\nnode 1 0\nnode 2 0\nhost 0 1\npair 1 2\non 0 1\non 0 2\nstream 0 2 0 4\nput 0 2 0 aa\nput 5 2 0 bb\n"
 STEPS = "4 transmissions, 3 receptions, 7 steps shown"
 
 

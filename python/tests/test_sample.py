@@ -91,6 +91,11 @@ def test_the_tables_of_streams_and_nodes_by_hand(worked: Sample) -> None:
     assert worked.battery_life("all", capacity_mah=1300)["mean"][0] == pytest.approx(lives.loc[(3, "days"), "mean"] / 2)
     assert worked.network(capacity_mah=1300).set_index("quantity").loc["days", "mean"] == pytest.approx(lives.loc[(3, "days"), "mean"] / 2)
     assert worked.runs["days"].tolist() == pytest.approx(lives.loc[(3, "days"), ["greatest", "least"]].tolist())
+    # A node on mains has no battery, so the shortest life is that of another one.
+    apart = worked.battery_life(mains=[3]).set_index(["node", "quantity"])
+    assert apart.loc[(3, "days"), "seeds"] == 0 and apart.loc[(1, "days")].equals(lives.loc[(1, "days")])
+    shortest = min(lives.loc[(1, "days"), "least"], lives.loc[(2, "days"), "least"])
+    assert worked.network(mains=[3]).set_index("quantity").loc["days", "least"] == pytest.approx(shortest)
 
 
 def test_the_object_says_what_it_is(worked: Sample) -> None:

@@ -78,12 +78,14 @@ def add_battery(parser: argparse.ArgumentParser) -> None:
     for name, words in (("transmit", "while the radio transmits (17.4)"), ("receive", "while it is on otherwise (18.8)"),
                         ("sleep", "while it is off (0)")):  # fmt: skip
         parser.add_argument(f"--{name}-ma", type=float, metavar="MA", help=f"the current {words}")
+    parser.add_argument("--mains", metavar="NODE,NODE,..", help="the nodes without a battery, by their ids or names")
 
 
-def battery(chosen: argparse.Namespace) -> dict[str, float]:
+def battery(chosen: argparse.Namespace) -> dict[str, Any]:
     """The words of `planning.battery_life` that are given."""
-    words = {name: getattr(chosen, name) for name in ("capacity_mah", "transmit_ma", "receive_ma", "sleep_ma")}
-    return {name: value for name, value in words.items() if value is not None}
+    words = {name: getattr(chosen, name, None) for name in ("capacity_mah", "transmit_ma", "receive_ma", "sleep_ma", "target_days")}
+    mains = {"mains": nodes(chosen.mains)} if chosen.mains else {}
+    return {**{name: value for name, value in words.items() if value is not None}, **mains}
 
 
 def add_places(parser: Options) -> None:

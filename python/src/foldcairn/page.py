@@ -38,7 +38,7 @@ from .timeline import DETAIL_SECONDS
 from .version import version
 
 _HALF = 0.32
-_EVENTS_MOST = 200
+_EVENTS_MOST, _CAUTIONS_MOST = 200, 20
 # Seen on light and on dark ground.
 _OFF = "rgba(127, 140, 160, 0.2)"
 
@@ -52,7 +52,7 @@ def write(log: Log, path: str | os.PathLike[str], **given: Any) -> Path:
     positions           places of the nodes for the map, as {id: (x, y)}
     background, extent  a picture below the map, as in `plot.topology`
     receivers           for whom packets are meant, in the forms of `foldcairn.receivers`; as the scenario says without it
-    battery             the words of `planning.battery_life`, as {"capacity_mah": 2500, "receive_ma": 20}
+    battery             the words of `planning.battery_life`, as {"capacity_mah": 2500, "receive_ma": 20, "mains": [1], "target_days": 730}
 
     The same run and words give the same bytes. A link to the page may end with `#from=S&to=S`, two times in seconds, and the page
     then begins there. Raises `OSError` where a file can't be read or written, and `ValueError` where a node has no place, or a
@@ -79,7 +79,7 @@ def of_settings(log: Log, settings: Settings) -> str:
     }
     return markup.page(
         "run.html", title=settings.title, site=settings.site, plan=settings.plan, notes=markup.paragraphs(settings.notes), about=about(log),
-        findings=findings.of(log, receivers=settings.whom(), battery=settings.battery), numbers=_numbers(log, settings),
+        findings=findings.of(log, receivers=settings.whom(), battery=settings.battery), cautions=_cautions(log), numbers=_numbers(log, settings),
         workload=notebook.workload(log.scenario), streams=markup.table(workload.table(log.scenario)), events=_events(log.scenario),
         detail=f"{DETAIL_SECONDS:g}", height=_height(log.scenario), timeline=markup.picture("The radios in the whole run", lambda: plot.timeline(log)),
         pictures=_pictures(log, settings), tables=_tables(log, settings), seed=log.scenario.seed,
@@ -118,6 +118,12 @@ def about_network(scenario: Scenario) -> str:
         f"{len(scenario.nodes)} nodes, {len(scenario.links)} links, hosts: {hosts}. {scenario.frames} frames of "
         f"{scenario.frame_seconds} s in profile {scenario.profile}: {scenario.seconds:,} s."
     )
+
+
+def _cautions(log: Log) -> list[str]:
+    """What of the run is hardly as it was meant, the first of it."""
+    told = planning.cautions(log)
+    return told[:_CAUTIONS_MOST] + [f"and {len(told) - _CAUTIONS_MOST} more, which `planning.cautions` has"] * (len(told) > _CAUTIONS_MOST)
 
 
 def _events(scenario: Scenario) -> list[str]:

@@ -61,13 +61,13 @@ def compare(plans: Mapping[str, Scenario], path: str | os.PathLike[str] | None =
     return comparing.compare(plans, path, **given)
 
 
-def titles(scenario: Scenario, receivers: Receivers, battery: dict[str, float]) -> dict[str, str]:
+def titles(scenario: Scenario, receivers: Receivers, battery: dict[str, Any]) -> dict[str, str]:
     """The titles of the tables that are shown, with the receivers and the battery that are meant, and the seed of the losses."""
     whom = findings.whom(scenario, receivers)
     more = {
         "delivery-by-stream": f"{SHOWN['delivery-by-stream']}, at {whom}",
         "latency-by-stream": f"{SHOWN['latency-by-stream']}, at {whom}",
-        "battery-life": f"{SHOWN['battery-life']} ({findings.battery_words(battery)})",
+        "battery-life": f"{SHOWN['battery-life']} ({findings.battery_words(scenario, battery)})",
     }
     draw = findings.draw(scenario.seed)
     return {name: title + (f" ({draw})" if draw else "") for name, title in {**SHOWN, **more}.items()}
@@ -93,6 +93,7 @@ def add_command(listed: Commands) -> None:
     parser.add_argument("--seed", type=int, metavar="N", help="the seed to draw losses by, a whole number (1 without it); `sample` has many seeds")
     commands.add_receivers(parser)
     commands.add_battery(parser)
+    parser.add_argument("--target-days", type=float, metavar="DAYS", help="how long batteries have to last: it is said which of them do")
     page = parser.add_argument_group("the page of --html")
     page.add_argument("--title", default="", help="the title of the page; the name of the scenario without it")
     page.add_argument("--site", default="", help="the name of the site, below the title")

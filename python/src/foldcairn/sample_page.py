@@ -3,6 +3,7 @@
 from __future__ import annotations
 
 from collections.abc import Mapping, Sequence
+from typing import Any
 
 import pandas as pd
 
@@ -25,14 +26,14 @@ _TITLES = {
 }
 
 
-def titles(sample: Sample, battery: Mapping[str, float]) -> dict[str, str]:
+def titles(sample: Sample, battery: Mapping[str, Any]) -> dict[str, str]:
     """The titles of the tables of a sample, with the receivers, the deadline and the battery that are meant."""
-    words = {"whom": sample.receivers, "seconds": f"{sample.deadline_seconds or 0:g}", "battery": findings.battery_words(dict(battery))}
+    words = {"whom": sample.receivers, "seconds": f"{sample.deadline_seconds or 0:g}", "battery": findings.battery_words(sample.scenario, battery)}
     known = sample.deadline_seconds is not None
     return {name: title.format(**words) for name, title in _TITLES.items() if known or not name.startswith("deadline")}
 
 
-def text(sample: Sample, title: str, battery: Mapping[str, float]) -> str:
+def text(sample: Sample, title: str, battery: Mapping[str, Any]) -> str:
     """The page of a sample: a map, all tables, and what was run."""
     # matplotlib and plotly are needed for a page alone.
     from . import markup, page, plot

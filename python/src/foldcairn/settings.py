@@ -13,12 +13,13 @@ from dataclasses import asdict, dataclass, field
 from pathlib import Path
 from typing import Any
 
+from . import radio
 from .arguments import ArgumentError
 from .results import Log
 from .scenario import Scenario
 
 Places = Mapping[int, tuple[float, float]]
-_BATTERY = ("capacity_mah", "transmit_ma", "receive_ma", "sleep_ma")
+_BATTERY = ("capacity_mah", "transmit_ma", "receive_ma", "sleep_ma", "mains", "target_days")
 
 
 @dataclass(frozen=True)
@@ -31,7 +32,7 @@ class Settings:
     notes: str = ""
     positions: list[tuple[int, float, float]] | None = None
     receivers: Any = None
-    battery: dict[str, float] = field(default_factory=dict)
+    battery: dict[str, Any] = field(default_factory=dict)
     background: str = ""
     extent: tuple[float, float, float, float] | None = None
     ratios: list[tuple[int, int, float]] = field(default_factory=list)
@@ -43,7 +44,7 @@ class Settings:
     @classmethod
     def of(
         cls, scenario: Scenario, *, title: str = "A run", site: str = "", plan: str = "", notes: str = "", positions: Places | None = None,
-        receivers: Any = None, battery: Mapping[str, float] | None = None,
+        receivers: Any = None, battery: Mapping[str, Any] | None = None,
         background: str | os.PathLike[str] | bytes | None = None, extent: tuple[float, float, float, float] | None = None,
     ) -> Settings:  # fmt: skip
         """The settings of a page of this scenario, with what no text of it has. Raises `ArgumentError` for a word of `battery` that
@@ -55,7 +56,7 @@ class Settings:
         return cls(
             title, site, plan, notes,
             None if positions is None else [(int(node), float(x), float(y)) for node, (x, y) in sorted(positions.items())],
-            _plain(given), {name: float(value) for name, value in (battery or {}).items()}, base64.b64encode(picture).decode(),
+            _plain(given), _of_battery(scenario, battery or {}), base64.b64encode(picture).decode(),
             None if extent is None else (float(extent[0]), float(extent[1]), float(extent[2]), float(extent[3])),
             [(*link, ratio) for link, ratio in sorted(scenario.prr.items())],
             [(*place, ratio) for place, ratio in sorted(scenario.ratios.items())], sorted(scenario.labels.items()), sorted(scenario.keep_alive),
@@ -96,6 +97,12 @@ class Settings:
     def picture(self) -> bytes | None:
         """The bytes of the background."""
         return base64.b64decode(self.background) or None
+
+
+def _of_battery(scenario: Scenario, battery: Mapping[str, Any]) -> dict[str, Any]:
+    """The words of a battery in a form that JSON has, with the nodes on mains by their ids."""
+    mains = {"mains": sorted(radio.on_mains(scenario, battery["mains"]))} if "mains" in battery else {}
+    return {**{name: float(value) for name, value in battery.items() if name != "mains"}, **mains}
 
 
 def _plain(receivers: Any) -> Any:
