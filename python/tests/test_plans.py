@@ -12,7 +12,7 @@ import pandas as pd
 import pytest
 from networks import FAILOVER, LINE
 
-from foldcairn import commands, compare, planning, plans, program, tallies
+from foldcairn import commands, compare, differences, planning, plans, program, tallies
 from foldcairn.__main__ import main
 from foldcairn.scenario import Scenario
 
@@ -149,6 +149,27 @@ def test_seeds_without_an_answer_are_told() -> None:
     outage = rows.loc["longest outage at a change of hosts, or to the end"]
     assert (outage["better"], outage["missing"]) == ("B", "")
     assert [row["missing"] for row in compare._rows(rows.reset_index(), ["A", "B"]) if row["missing"]] == ["B in 1 of 2 seeds"]
+
+
+def test_in_what_plans_differ() -> None:
+    """Each setting that differs is named; of the same number of links, what are others is said."""
+    plan = Scenario.read(FAILOVER)
+    assert differences.of({"A": plan, "B": plan.copy()}) == {}
+    other = plan.copy().unlink(1, 3).link(3, 1, 0.9).link(1, 3)
+    other.sends, other.profile, other.contend = 1, 2, 3
+    assert differences.of({"A": plan, "B": other, "C": plan}) == {
+        "profile": ["1", "2", "1"],
+        "transmissions of a node in a flood, at most (sends)": ["2", "1", "2"],
+        "contention slots of a round (contend)": ["1", "3", "1"],
+        "links that lose something": ["0", "1", "0"],
+        "streams": ["1 ask for 4 s, packets: 80 s", "1 ask for 4 s, packets: 100 s", "1 ask for 4 s, packets: 80 s"],
+        "what happens": ["At 24 s node 1 is switched off.", "At 30 s node 1 is switched off.", "At 24 s node 1 is switched off."],
+    }
+    others = plan.copy()
+    others.links = {(1, 2), (2, 1), (1, 3), (3, 1), (2, 3)}
+    fewer = others.copy()
+    fewer.links = fewer.links - {(2, 3)} | {(3, 2)}
+    assert differences.of({"A": others, "B": fewer}) == {"links": ["5", "5, others"]}
 
 
 @pytest.mark.parametrize(

@@ -400,6 +400,9 @@ def test_the_page_of_the_command(folder: Path, capsys: pytest.CaptureFixture[str
     assert main(["sample", "line.network", "--seeds", "7-8", "--deadline", "30", "--html", "line.html"]) == 0
     page = (folder / "line.html").read_text()
     assert capsys.readouterr().out == "" and page.startswith("<!DOCTYPE html>") and "<title>line</title>" in page
+    # Words, and no identifiers.
+    assert "<td>delivered, part of what was put</td>" in page and "<dt>half of the deliveries came within, s, " in page
+    assert not re.findall(r"<t[dh]>(?:\w+_\w+|p\d+)</t[dh]>|<dt>\w+_\w+", page)
     for part in ("Seeds: 7 to 8", "Battery life in days (2600 mAh", "Part that is delivered within 30 s", "data:image/svg+xml", "how many seeds have it"):
         assert part in page
     # Seeds that do not follow each other are listed.

@@ -15,7 +15,7 @@ import numpy as np
 import pandas as pd
 from numpy.typing import NDArray
 
-from . import arguments, files, findings, intervals, lines, losses, markup, page, planning, plot, results as runs, sample
+from . import arguments, differences, files, findings, intervals, lines, losses, markup, page, planning, plot, results as runs, sample
 from . import seeds as many, service, sweep, tallies
 from .arguments import ArgumentError
 from .receivers import Receivers, meant
@@ -207,15 +207,37 @@ def _page(
     plans: Mapping[str, Scenario], logs: Mapping[str, Log], table: pd.DataFrame, seeds: Sequence[int], title: str, site: str, notes: str,
     positions: Mapping[int, tuple[float, float]] | None,
 ) -> str:  # fmt: skip
-    about = {name: page.about(logs[name]) if name in logs else page.about_network(network) for name, network in plans.items()}
-    pictures = [
-        *(markup.picture(f"The network, plan {name}", functools.partial(plot.topology, one, positions=positions)) for name, one in plans.items()),
-        *(_failure(name, log) for name, log in logs.items()),
-    ]
+    pictures = [*_maps(plans, positions), *(_failure(name, log) for name, log in logs.items())]
     return markup.page(
-        "compare.html", title=title, site=site, notes=markup.paragraphs(notes), about=about, rows=_rows(table, list(plans)), pictures=pictures,
+        "compare.html", title=title, site=site, notes=markup.paragraphs(notes), plans=list(plans), about=_about(plans),
+        differences=differences.of(plans), rows=_rows(table, list(plans)), pictures=pictures,
         many=f"{len(seeds)} seeds" if len(seeds) > 1 else f"{findings.draw(seeds[0])}; it gives no interval", origin=table.attrs,
     )  # fmt: skip
+
+
+def _about(plans: Mapping[str, Scenario]) -> dict[str, str]:
+    """What the plans are, with the names of those of which it is said."""
+    told: dict[str, list[str]] = {}
+    for name, network in plans.items():
+        told.setdefault(page.about_network(network), []).append(name)
+    return {_named(names, plans): words for words, names in told.items()}
+
+
+def _named(names: Sequence[str], plans: Mapping[str, Scenario]) -> str:
+    """Plans in words."""
+    return "all plans" if len(names) == len(plans) else f"plan{'s' * (len(names) > 1)} {', '.join(names)}"
+
+
+def _maps(plans: Mapping[str, Scenario], positions: Mapping[int, tuple[float, float]] | None) -> list[markup.Picture]:
+    """A map for all plans that have the same one."""
+    alike: dict[str, list[str]] = {}
+    for name, one in plans.items():
+        content = (sorted(one.nodes), sorted(one.links), sorted(one.hosts.items()), sorted(one.labels.items()), one.ratio_lines())
+        alike.setdefault(repr(content), []).append(name)
+    return [
+        markup.picture(f"The network, {_named(names, plans)}", functools.partial(plot.topology, plans[names[0]], positions=positions))
+        for names in alike.values()
+    ]
 
 
 def _rows(table: pd.DataFrame, plans: list[str]) -> list[dict[str, Any]]:

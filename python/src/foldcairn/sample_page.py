@@ -26,6 +26,27 @@ _TITLES = {
 }
 
 
+# The words of the quantities, and those over the columns.
+_QUANTITIES = {
+    "ratio_of_put": "delivered, part of what was put", "within_deadline": "delivered within the deadline, part of what was put",
+    "latency_median": "half of the deliveries came within, s", "latency_p90": "90 % of the deliveries came within, s",
+    "dropped": "dropped at once, part of the packets", "sent": "sent, part of the packets", "waiting": "waiting at the end, part of the packets",
+    "cleared": "in a queue that was emptied, part of the packets", "duty_cycle": "duty cycle", "duty_cycle_in_rounds": "duty cycle without searching",
+    "on_seconds": "radio on, s", "scanned_frames": "frames at whose start it searched", "searching_seconds": "searching for a host, s",
+    "days": "battery life, days", "days_in_rounds": "battery life without searching, days",
+}  # fmt: skip
+_HEADS = {
+    "quantity": "number", "error": "standard error", "low": "mean from", "high": "to (95 %)", "p5": "5 % of seeds below", "p50": "median",
+    "p95": "95 % below",
+}  # fmt: skip
+
+
+def in_words(table: pd.DataFrame) -> pd.DataFrame:
+    """A table of a sample as a page shows it: quantities and columns by words; what has none has its name."""
+    told = table.assign(quantity=[_QUANTITIES.get(word, word) for word in table["quantity"]])
+    return told.rename(columns=_HEADS)
+
+
 def titles(sample: Sample, battery: Mapping[str, Any]) -> dict[str, str]:
     """The titles of the tables of a sample, with the receivers, the deadline and the battery that are meant."""
     words = {"whom": sample.receivers, "seconds": f"{sample.deadline_seconds or 0:g}", "battery": findings.battery_words(sample.scenario, battery)}
@@ -47,9 +68,9 @@ def text(sample: Sample, title: str, battery: Mapping[str, Any]) -> str:
         "with 95 % (from low to high), and quantiles over the seeds."
     )
     return markup.page(
-        "sample.html", title=title, about=about, whole=markup.section("network", whole, tables["network"], _meanings(tables["network"])),
+        "sample.html", title=title, about=about, whole=markup.section("network", whole, in_words(tables["network"]), _meanings(tables["network"])),
         map=markup.picture("The map", lambda: plot.topology(scenario)),
-        tables=[markup.section(name, words, tables[name], {}) for name, words in named.items()], seeds=_seeds(sample.origin["seeds"]), origin=sample.origin,
+        tables=[markup.section(name, words, in_words(tables[name]), {}) for name, words in named.items()], seeds=_seeds(sample.origin["seeds"]), origin=sample.origin,
     )  # fmt: skip
 
 
@@ -57,7 +78,7 @@ def _meanings(table: pd.DataFrame) -> dict[str, str]:
     """What the quantities of a table and its columns mean, as the docstrings say it."""
     told = {**meanings.of_docstring(Sample.network), **meanings.of_docstring(intervals.over_seeds)}
     words = dict.fromkeys((*table["quantity"], *table.columns))
-    return {word: told[word].rstrip(". ").replace("`", "") for word in words if word in told}
+    return {{**_QUANTITIES, **_HEADS}.get(word, word): told[word].rstrip(". ").replace("`", "") for word in words if word in told}
 
 
 def _many(seeds: Sequence[int]) -> str:
