@@ -139,8 +139,8 @@ def test_the_page_has_the_names_the_notes_and_ten_lines(text: str) -> None:
     assert "<p>For the cooperative.</p><p>Ratios of &lt;March&gt;.</p>" in text
     findings = re.search(r'<ol class="findings">(.*?)</ol>', text, re.DOTALL)
     assert findings and findings[1].count("<li>") == 11
-    for told in ("All that follows is of one draw, seed ", "arrive at whichever host serves", "2500 mAh", "20 mA while it is on", "3 times a node was switched on again",
-                 "Rounds were opened by node 101", "s after the first start"):  # fmt: skip
+    for told in ("All that follows is of one draw, seed ", "arrive at whichever host serves", "2500 mAh", "20 mA while it is on",
+                 "3 times a node was switched on again", "Rounds were opened by node 101", "s after the first start"):  # fmt: skip
         assert told in findings[1], told
     assert "26 streams of 26 nodes that ask for a slot every 10 to 50 s" in text and "node 101 is switched off" in text
     assert len(text) < 10_000_000 and "Battery life in days (2500 mAh" in text and "docs/PLANNING.md" not in text

@@ -147,7 +147,8 @@ class Sample:
     def battery_life(self, by: str = "node", **battery: Any) -> pd.DataFrame:
         """How long a battery lasts if all its time is as this run was: `days`, and `days_in_rounds` if its node never searched. `by` is
         "node", or "all" for the shortest of all nodes. `battery` has the words of `planning.battery_life`, as capacity_mah=2500, but for
-        those of a time and the target; a node on `mains` has no life. Raises `ArgumentError` where `by` is another word, or a current or the capacity is below 0."""
+        those of a time and the target; a node on `mains` has no life. Raises `ArgumentError` where `by` is another word, or a current or
+        the capacity is below 0."""
         arguments.one_of("by", by, ("node", "all"))
         lives = self._lives(battery)
         if by == "all":

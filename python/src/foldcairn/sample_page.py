@@ -70,7 +70,8 @@ def text(sample: Sample, title: str, battery: Mapping[str, Any]) -> str:
     return markup.page(
         "sample.html", title=title, about=about, whole=markup.section("network", whole, in_words(tables["network"]), _meanings(tables["network"])),
         map=markup.picture("The map", lambda: plot.topology(scenario)),
-        tables=[markup.section(name, words, in_words(tables[name]), {}) for name, words in named.items()], seeds=_seeds(sample.origin["seeds"]), origin=sample.origin,
+        tables=[markup.section(name, words, in_words(tables[name]), {}) for name, words in named.items()],
+        seeds=_seeds(sample.origin["seeds"]), origin=sample.origin,
     )  # fmt: skip
 
 
