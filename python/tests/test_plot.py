@@ -267,10 +267,10 @@ def plant() -> tuple[Scenario, dict[int, tuple[float, float]]]:
 def circles(figure: Figure) -> dict[tuple[float, float], Bbox]:
     """The nodes of a map by their places, as squares in pixels."""
     drawn, found = figure.axes[0], {}
-    for line in drawn.lines:
-        if len(line.get_xdata()) == 1:
-            place = float(line.get_xdata()[0]), float(line.get_ydata()[0])
-            (x, y), half = drawn.transData.transform(place), line.get_markersize() / 2 * figure.dpi / 72
+    for mark in drawn.lines:
+        if len(mark.get_xdata()) == 1:
+            place = float(mark.get_xdata()[0]), float(mark.get_ydata()[0])
+            (x, y), half = drawn.transData.transform(place), mark.get_markersize() / 2 * figure.dpi / 72
             found[place] = Bbox.from_extents(x - half, y - half, x + half, y + half)
     return found
 

@@ -152,7 +152,8 @@ def topology(
         _draw_links(drawn, scenario, ratios, laid, broken, shown)
         _draw_nodes(drawn, scenario, laid, hops(scenario, failed=failed, at_seconds=at_seconds), down)
         drawn.margins(0.08)
-        style.heading(drawn, title or f"{len(scenario.nodes)} nodes, {len(scenario.links)} links", "\n".join(filter(None, [left_out, _reading(scenario)])), above=16)
+        note = "\n".join(filter(None, [left_out, _reading(scenario)]))
+        style.heading(drawn, title or f"{len(scenario.nodes)} nodes, {len(scenario.links)} links", note, above=16)
         if axes is None:
             style.key(drawn, 4, below=0.1)
         _draw_names(drawn, scenario, laid, down, shown)
