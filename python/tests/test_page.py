@@ -13,7 +13,7 @@ import pytest
 from browser import CHROMIUM, Browser
 from networks import FAILOVER, log_of
 
-from foldcairn import page, results, style
+from foldcairn import findings, page, results, style
 from foldcairn.settings import Settings
 from foldcairn.__main__ import main
 from foldcairn.scenario import Scenario
@@ -130,12 +130,15 @@ def test_a_page_with_mains_a_target_and_cautions(tmp_path: Path, undrawn: None) 
     """Each is in the summary, and the page that is made again from its settings has them too."""
     (tmp_path / "run.scenario").write_text(FAILOVER.replace("on 0 3\n", "on 0 3\non 0 4\n").replace("node 3 0\n", "node 3 0\nnode 4 0\n"))
     path = tmp_path / "page.html"
-    words = ["report", str(tmp_path / "run.scenario"), "--mains", "1,2", "--target-days", "30"]
+    words = ["report", str(tmp_path / "run.scenario"), "--mains", "1,2", "--target-days", "30", "--deadline", "50"]
     assert main([*words, "--html", str(path)]) == 0
     told = path.read_text()
-    summary = told[told.index("<h2") : told.index("The workload")]
+    summary = told[told.index("<h2") : told.index('<h2 id="workload"')]
     assert "on mains: node 1, node 2)" in summary and "0 of 2 batteries last the 30 days that are asked for" in summary
+    # The packet of 80 s is due after the end. That of 0 s is delivered at 37 s at node 2, and at no other of the three.
+    assert "Within the deadline of 50 s 33.3 % of the 3 that were due by the end arrive." in summary
     assert "<h3>Cautions</h3>" in summary and "node 4 has no link to or from any other node" in summary and "never joined a host: node 4" in summary
+    assert "None was due by a deadline of 130 s" in " ".join(findings.of(log_of(FAILOVER), deadline=130))
     (tmp_path / "run.page.json").write_text(unpacked(told, "settings"))
     assert main(["report", str(tmp_path / "run.scenario"), "--page", str(tmp_path / "run.page.json"), "--html", str(tmp_path / "again.html")]) == 0
     assert (tmp_path / "again.html").read_text() == told
@@ -146,6 +149,8 @@ def test_a_page_with_mains_a_target_and_cautions(tmp_path: Path, undrawn: None) 
 def test_words_that_no_page_has(log: results.Log) -> None:
     with pytest.raises(ValueError, match="`battery` has 'mah', and not one of capacity_mah, transmit_ma"):
         page.text(log, battery={"mah": 3})
+    with pytest.raises(ValueError, match="`deadline` is 0"):
+        page.text(log, deadline=0)
     with pytest.raises(ValueError, match="these are no settings of a page"):
         Settings.read("[]")
 

@@ -44,12 +44,12 @@ def whom(scenario: Scenario, receivers: Receivers) -> str:
     return "all other nodes" if chosen == frozenset(scenario.nodes) else nodes(scenario, sorted(chosen))
 
 
-def of(log: Log, *, receivers: Receivers = None, battery: dict[str, Any] | None = None) -> list[str]:
+def of(log: Log, *, receivers: Receivers = None, battery: dict[str, Any] | None = None, deadline: float | None = None) -> list[str]:
     """Ten sentences with the main numbers of a run, after one that says by which draw of the losses they are; `receivers` and `battery` are
-    as in `planning.tables`."""
+    as in `planning.tables`, and `deadline` is a time in seconds from put to delivery."""
     drawn = [f"All that follows is of {draw(log.scenario.seed)}."] if log.scenario.seed is not None else []
     return [
-        *drawn, _delivered(log, receivers), _worst(log, receivers), _latency(log, receivers), _start(log), _power_cycles(log), _hosts(log),
+        *drawn, _delivered(log, receivers), _worst(log, receivers), _latency(log, receivers) + _in_time(log, receivers, deadline), _start(log), _power_cycles(log), _hosts(log),
         _outage(log), _at_the_end(log), _duty(log), _battery(log, battery or {}),
     ]  # fmt: skip
 
@@ -82,6 +82,17 @@ def _latency(log: Log, receivers: Receivers) -> str:
     if not row["deliveries"]:
         return "Nothing arrives, so there is no latency."
     return f"Of what arrives half does within {row['median']:.1f} s, 90 % within {row['p90']:.1f} s, and all within {row['max']:.1f} s."
+
+
+def _in_time(log: Log, receivers: Receivers, seconds: float | None) -> str:
+    """Which part is delivered within the deadline, if there is one."""
+    if seconds is None:
+        return ""
+    row = delivery.deadline(log, seconds, "all", receivers=receivers).iloc[0]
+    due = int(row["due"])
+    if not due:
+        return f" None was due by a deadline of {seconds:g} s before the end of the run."
+    return f" Within the deadline of {seconds:g} s {_percent(row['share'])} of the {due:,} that were due by the end arrive."
 
 
 def _start(log: Log) -> str:

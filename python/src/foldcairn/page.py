@@ -53,6 +53,7 @@ def write(log: Log, path: str | os.PathLike[str], **given: Any) -> Path:
     background, extent  a picture below the map, as in `plot.topology`
     receivers           for whom packets are meant, in the forms of `foldcairn.receivers`; as the scenario says without it
     battery             the words of `planning.battery_life`, as {"capacity_mah": 2500, "receive_ma": 20, "mains": [1], "target_days": 730}
+    deadline            a time in seconds: the summary says which part is delivered within it, and the picture of latencies marks it
 
     The same run and words give the same bytes. A link to the page may end with `#from=S&to=S`, two times in seconds, and the page
     then begins there. Raises `OSError` where a file can't be read or written, and `ValueError` where a node has no place, or a
@@ -79,7 +80,7 @@ def of_settings(log: Log, settings: Settings) -> str:
     }
     return markup.page(
         "run.html", title=settings.title, site=settings.site, plan=settings.plan, notes=markup.paragraphs(settings.notes), about=about(log),
-        findings=findings.of(log, receivers=settings.whom(), battery=settings.battery), cautions=_cautions(log), numbers=_numbers(log, settings),
+        findings=findings.of(log, receivers=settings.whom(), battery=settings.battery, deadline=settings.deadline), cautions=_cautions(log), numbers=_numbers(log, settings),
         workload=notebook.workload(log.scenario), streams=markup.table(workload.table(log.scenario)), events=_events(log.scenario),
         detail=f"{DETAIL_SECONDS:g}", height=_height(log.scenario), timeline=markup.picture("The radios in the whole run", lambda: plot.timeline(log)),
         pictures=_pictures(log, settings), tables=_tables(log, settings), seed=log.scenario.seed,
@@ -167,7 +168,7 @@ def _pictures(log: Log, settings: Settings) -> list[markup.Picture]:
     drawn: list[tuple[str, Callable[[], Figure]]] = [
         ("The network", lambda: plot.topology(log.scenario, positions=settings.places(), background=settings.picture(), extent=settings.extent)),
         ("Delivery ratio of each stream at each node", lambda: plot.delivery(pairs)),
-        ("Latencies", lambda: plot.latency(planning.latencies(log, receivers=settings.whom()))),
+        ("Latencies", lambda: plot.latency(planning.latencies(log, receivers=settings.whom()), deadline_seconds=settings.deadline)),
         ("Radio time by purpose", lambda: plot.energy(planning.radio_time(log))),
         ("Outages", lambda: plot.outages(planning.outages(log, "stream"))),
     ]

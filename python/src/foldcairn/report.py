@@ -98,6 +98,7 @@ def add_command(listed: Commands) -> None:
     page.add_argument("--title", default="", help="the title of the page; the name of the scenario without it")
     page.add_argument("--site", default="", help="the name of the site, below the title")
     page.add_argument("--plan", default="", help="the name of the plan, below the title")
+    page.add_argument("--deadline", type=float, metavar="S", help="say which part is delivered within so many seconds, and mark it")
     page.add_argument("--notes", metavar="FILE", help="a text of your own, which stands at the top")
     commands.add_places(page)
     page.add_argument("--background", metavar="PNG", help="a picture below the map; it needs --places")
@@ -167,7 +168,7 @@ def _settings(scenario: Scenario, positions: dict[int, tuple[float, float]] | No
         notes=Path(chosen.notes).read_text(encoding="utf-8") if chosen.notes else "",
         positions=positions, receivers=commands.receivers(chosen.receivers),
         battery=commands.battery(chosen), background=chosen.background,
-        extent=commands.extent(chosen.extent),
+        extent=commands.extent(chosen.extent), deadline=chosen.deadline,
     )  # fmt: skip
 
 

@@ -13,7 +13,7 @@ from dataclasses import asdict, dataclass, field
 from pathlib import Path
 from typing import Any
 
-from . import radio
+from . import arguments, radio
 from .arguments import ArgumentError
 from .results import Log
 from .scenario import Scenario
@@ -40,15 +40,17 @@ class Settings:
     labels: list[tuple[int, str]] = field(default_factory=list)
     keep_alive: list[tuple[int, int]] = field(default_factory=list)
     seed: int | None = None
+    deadline: float | None = None
 
     @classmethod
     def of(
         cls, scenario: Scenario, *, title: str = "A run", site: str = "", plan: str = "", notes: str = "", positions: Places | None = None,
         receivers: Any = None, battery: Mapping[str, Any] | None = None,
         background: str | os.PathLike[str] | bytes | None = None, extent: tuple[float, float, float, float] | None = None,
+        deadline: float | None = None,
     ) -> Settings:  # fmt: skip
         """The settings of a page of this scenario, with what no text of it has. Raises `ArgumentError` for a word of `battery` that
-        `planning.battery_life` does not have, and `OSError` where the background can't be read."""
+        `planning.battery_life` does not have or a deadline that is not above 0, and `OSError` where the background can't be read."""
         if strange := set(battery or {}) - set(_BATTERY):
             raise ArgumentError(f"`battery` has {min(strange)!r}, and not one of {', '.join(_BATTERY)}")
         picture = background if isinstance(background, bytes) else b"" if background is None else Path(background).read_bytes()
@@ -60,7 +62,7 @@ class Settings:
             None if extent is None else (float(extent[0]), float(extent[1]), float(extent[2]), float(extent[3])),
             [(*link, ratio) for link, ratio in sorted(scenario.prr.items())],
             [(*place, ratio) for place, ratio in sorted(scenario.ratios.items())], sorted(scenario.labels.items()), sorted(scenario.keep_alive),
-            scenario.seed,
+            scenario.seed, None if deadline is None else arguments.real("deadline", deadline, above=0),
         )  # fmt: skip
 
     @classmethod
