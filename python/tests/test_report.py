@@ -148,7 +148,9 @@ def test_what_was_not_drawn_says_so(network: Scenario, capsys: pytest.CaptureFix
     assert "draw" not in page[page.index("<h1>") : page.index("<h2")] and "(one draw" not in page
     # A run in Python by hand, without its losses.
     assert "<b>No losses were drawn:</b> the reception ratios" in pages.text(results.log(network, warn=False))
-    assert main(["report", "line.scenario"]) == 0 and DRAW not in capsys.readouterr().out
+    Path("whole.csv").write_text("from,to,prr\n2,3,1\n")
+    for words in (["line.scenario"], ["line.scenario", "--ratios", "whole.csv"]):
+        assert main(["report", *words]) == 0 and DRAW not in capsys.readouterr().out
 
 
 def test_the_timeline_and_tables_of_one_seed_say_so(network: Scenario, capsys: pytest.CaptureFixture[str]) -> None:

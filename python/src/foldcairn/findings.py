@@ -49,7 +49,8 @@ def of(log: Log, *, receivers: Receivers = None, battery: dict[str, Any] | None 
     as in `planning.tables`, and `deadline` is a time in seconds from put to delivery."""
     drawn = [f"All that follows is of {draw(log.scenario.seed)}."] if log.scenario.seed is not None else []
     return [
-        *drawn, _delivered(log, receivers), _worst(log, receivers), _latency(log, receivers) + _in_time(log, receivers, deadline), _start(log), _power_cycles(log), _hosts(log),
+        *drawn, _delivered(log, receivers), _worst(log, receivers), _latency(log, receivers) + _in_time(log, receivers, deadline), _start(log),
+        _power_cycles(log), _hosts(log),
         _outage(log), _at_the_end(log), _duty(log), _battery(log, battery or {}),
     ]  # fmt: skip
 

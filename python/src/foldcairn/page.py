@@ -80,7 +80,8 @@ def of_settings(log: Log, settings: Settings) -> str:
     }
     return markup.page(
         "run.html", title=settings.title, site=settings.site, plan=settings.plan, notes=markup.paragraphs(settings.notes), about=about(log),
-        findings=findings.of(log, receivers=settings.whom(), battery=settings.battery, deadline=settings.deadline), cautions=_cautions(log), numbers=_numbers(log, settings),
+        findings=findings.of(log, receivers=settings.whom(), battery=settings.battery, deadline=settings.deadline),
+        cautions=_cautions(log), numbers=_numbers(log, settings),
         workload=notebook.workload(log.scenario), streams=markup.table(workload.table(log.scenario)), events=_events(log.scenario),
         detail=f"{DETAIL_SECONDS:g}", height=_height(log.scenario), timeline=markup.picture("The radios in the whole run", lambda: plot.timeline(log)),
         pictures=_pictures(log, settings), tables=_tables(log, settings), seed=log.scenario.seed,
