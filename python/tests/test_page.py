@@ -174,6 +174,21 @@ def test_a_browser_shows_the_whole_run(browser: Browser, address: str) -> None:
 
 
 @needs_chromium
+def test_a_phone_shows_the_page_in_its_width(browser: Browser, address: str) -> None:
+    """390 pixels: nothing makes the page wider, and what is wide moves within it; a link of the contents leaves the timeline as it is."""
+    browser.call("Emulation.setDeviceMetricsOverride", width=390, height=844, deviceScaleFactor=1, mobile=True)
+    browser.open(address + "#from=37.033&to=37.041")
+    assert browser.evaluate("document.documentElement.scrollWidth") == 390
+    assert browser.evaluate("[...document.querySelectorAll('.wide')].some((one) => one.scrollWidth > one.clientWidth)")
+    links = browser.evaluate("[...document.querySelectorAll('.contents a')].map((one) => one.getAttribute('href'))")
+    assert len(links) == 10 and browser.evaluate(f"{links}.every((one) => document.querySelector(one) !== null)")
+    browser.evaluate("document.querySelector('.contents a[href=\"#tables\"]').click()")
+    browser.wait("location.hash === '#tables'")
+    assert message(browser).endswith(STEPS)
+    browser.call("Emulation.clearDeviceMetricsOverride")
+
+
+@needs_chromium
 def test_zooming_to_one_slot_shows_the_steps(browser: Browser, address: str) -> None:
     # Slot 1 of the round at 37 s, in which the host is gone: node 3 transmits in steps 0 and 2, node 2 in 1 and 3.
     browser.open(address + "#from=37.033&to=37.041")
