@@ -20,7 +20,7 @@ from foldcairn.visible import csv, visible
 # Each would set `broken` in a page that takes it for HTML.
 TAG, IMAGE, QUOTE = "<script>broken = 1</script>", '"><img src=x onerror="broken = 1">', 'y" onload="broken = 1'
 FRACTION, UNKNOWN, ESCAPE, FORMULA = r"$\frac$", r"$\nosuch$", "\x1b]0;broken\x07\x1b[31mred", "=1+1"
-NAMES = [TAG, IMAGE, QUOTE, FRACTION, UNKNOWN, ESCAPE, FORMULA, "$", "a & b's <b>", "@x", "\udcff"]
+NAMES = [TAG, IMAGE, QUOTE, FRACTION, UNKNOWN, ESCAPE, FORMULA, "$", "a & b's <b>", "@x", "\udcff", "-"]
 
 
 def named(text: str, *names: str) -> str:
@@ -93,18 +93,19 @@ def test_a_browser_runs_nothing_of_names(pages: dict[str, Path], kind: str, brow
     assert browser.evaluate("document.querySelectorAll('.table td b, .figure b, .findings b').length") == 0
 
 
-@pytest.mark.parametrize("name", NAMES)
-def test_names_in_pictures(name: str, tmp_path: Path) -> None:
+@pytest.mark.parametrize("names", [NAMES[at : at + 3] for at in range(0, len(NAMES), 3)])
+def test_names_in_pictures(names: list[str], tmp_path: Path) -> None:
     """No part of a name is a formula of matplotlib, and an SVG text has none of the characters that XML forbids."""
-    log = results.log(Scenario.read(named(FAILOVER, name, name + "2", name + "3").encode("utf-8", "surrogateescape")), warn=False)
+    log = results.log(Scenario.read(named(FAILOVER, *names).encode("utf-8", "surrogateescape")), warn=False)
+    # The first three have all nodes, the others the source of the packets alone.
     drawn = [
-        plot.topology(log.scenario), plot.timeline(log), plot.delivery(planning.delivery_ratio(log, "pair")), plot.latency(planning.latencies(log)),
-        plot.energy(planning.radio_time(log)), plot.outages(planning.outages(log, "stream")),
+        plot.topology(log.scenario), plot.timeline(log), plot.energy(planning.radio_time(log)), plot.delivery(planning.delivery_ratio(log, "pair")),
+        plot.latency(planning.latencies(log)), plot.outages(planning.outages(log, "stream")),
     ]  # fmt: skip
     for place, figure in enumerate(drawn):
         kept = plot.save(figure, tmp_path / f"{place}.svg").read_text()
-        escaped = visible(f"{name}3").replace("&", "&amp;").replace("<", "&lt;").replace(">", "&gt;")
-        assert escaped in kept
+        escaped = [visible(name).replace("&", "&amp;").replace("<", "&lt;").replace(">", "&gt;") for name in names]
+        assert all(name in kept for name in (escaped if place < 3 else escaped[2:]))
 
 
 def test_what_is_visible() -> None:
