@@ -173,7 +173,7 @@ metadata() {
         return 1
     # The project has no address of its own, and so none here.
     ! grep '^Project-URL:\|^Home-page:' "$folder/out" || return 1
-    ! grep '^Requires-Dist: \(matplotlib\|plotly\|distributed\)' "$folder/out" | grep -v extra
+    ! grep '^Requires-Dist: \(matplotlib\|plotly\|jinja2\|distributed\)' "$folder/out" | grep -v extra
 }
 
 # What is unpacked of the Debian package is tried without being installed.

@@ -1,6 +1,6 @@
 #!/bin/sh
-# Installs what the Python package in python/ needs: Debian's packages of pandas, networkx, matplotlib, plotly, tqdm,
-# scipy, statsmodels, pytest and hypothesis, for Debian's /usr/bin/python3. With --optional it also installs what only some tests
+# Installs what the Python package in python/ needs: Debian's packages of pandas, networkx, matplotlib, plotly,
+# jinja2, tqdm, scipy, statsmodels, pytest and hypothesis, for Debian's /usr/bin/python3. With --optional it also installs what only some tests
 # and `make lint` need: chromium and tshark, which open the pages and the captures that the package writes, distributed (Dask),
 # pytest-cov, mypy, pyflakes, pycodestyle and shellcheck, and valgrind, which counts instructions. Tests that need one of them are skipped
 # where it is missing, and say so.
@@ -14,7 +14,7 @@
 # other words. Tested, not proved.
 set -u
 
-modules='pandas networkx matplotlib plotly tqdm scipy statsmodels pytest hypothesis'
+modules='pandas networkx matplotlib plotly jinja2 tqdm scipy statsmodels pytest hypothesis'
 # Programs and modules that only some tests and the checks of `make lint` use; a program has the name of its Debian package.
 programs='chromium tshark shellcheck valgrind'
 optional='distributed pytest_cov mypy pyflakes pycodestyle'

@@ -13,7 +13,7 @@ import pytest
 from browser import CHROMIUM, Browser
 from networks import FAILOVER, log_of
 
-from foldcairn import page, results, style
+from foldcairn import findings, page, results, style
 from foldcairn.settings import Settings
 from foldcairn.__main__ import main
 from foldcairn.scenario import Scenario
@@ -126,13 +126,36 @@ def test_settings_of_a_command(log: results.Log, given: dict[str, object], tmp_p
     assert main(["report", str(tmp_path / "failover.scenario"), "--receivers", "9"]) == 1
 
 
+def test_a_page_with_mains_a_target_and_cautions(tmp_path: Path, undrawn: None) -> None:
+    """Each is in the summary, and the page that is made again from its settings has them too."""
+    (tmp_path / "run.scenario").write_text(FAILOVER.replace("on 0 3\n", "on 0 3\non 0 4\n").replace("node 3 0\n", "node 3 0\nnode 4 0\n"))
+    path = tmp_path / "page.html"
+    words = ["report", str(tmp_path / "run.scenario"), "--mains", "1,2", "--target-days", "30", "--deadline", "50"]
+    assert main([*words, "--html", str(path)]) == 0
+    told = path.read_text()
+    summary = told[told.index("<h2") : told.index('<h2 id="workload"')]
+    assert "on mains: node 1, node 2)" in summary and "0 of 2 batteries last the 30 days that are asked for" in summary
+    # The packet of 80 s is due after the end. That of 0 s is delivered at 37 s at node 2, and at no other of the three.
+    assert "Within the deadline of 50 s 33.3 % of the 3 that were due by the end arrive." in summary
+    assert "<h3>Cautions</h3>" in summary and "node 4 has no link to or from any other node" in summary and "never joined a host: node 4" in summary
+    assert "None was due by a deadline of 130 s" in " ".join(findings.of(log_of(FAILOVER), deadline=130))
+    (tmp_path / "run.page.json").write_text(unpacked(told, "settings"))
+    assert main(["report", str(tmp_path / "run.scenario"), "--page", str(tmp_path / "run.page.json"), "--html", str(tmp_path / "again.html")]) == 0
+    assert (tmp_path / "again.html").read_text() == told
+    # A run of which nothing is to be remarked.
+    assert "Cautions" not in page.text(results.log(LINE_OF_TWO))
+
+
 def test_words_that_no_page_has(log: results.Log) -> None:
     with pytest.raises(ValueError, match="`battery` has 'mah', and not one of capacity_mah, transmit_ma"):
         page.text(log, battery={"mah": 3})
+    with pytest.raises(ValueError, match="`deadline` is 0"):
+        page.text(log, deadline=0)
     with pytest.raises(ValueError, match="these are no settings of a page"):
         Settings.read("[]")
 
 
+LINE_OF_TWO = "frames 8\nsends 2\nnode 1 0\nnode 2 0\nhost 0 1\npair 1 2\non 0 1\non 0 2\nstream 0 2 0 4\nput 0 2 0 aa\nput 5 2 0 bb\n"
 STEPS = "4 transmissions, 3 receptions, 7 steps shown"
 
 
@@ -148,6 +171,21 @@ def test_a_browser_shows_the_whole_run(browser: Browser, address: str) -> None:
         FAILOVER
     ).text(warn=False)
     assert browser.console == []
+
+
+@needs_chromium
+def test_a_phone_shows_the_page_in_its_width(browser: Browser, address: str) -> None:
+    """390 pixels: nothing makes the page wider, and what is wide moves within it; a link of the contents leaves the timeline as it is."""
+    browser.call("Emulation.setDeviceMetricsOverride", width=390, height=844, deviceScaleFactor=1, mobile=True)
+    browser.open(address + "#from=37.033&to=37.041")
+    assert browser.evaluate("document.documentElement.scrollWidth") == 390
+    assert browser.evaluate("[...document.querySelectorAll('.wide')].some((one) => one.scrollWidth > one.clientWidth)")
+    links = browser.evaluate("[...document.querySelectorAll('.contents a')].map((one) => one.getAttribute('href'))")
+    assert len(links) == 10 and browser.evaluate(f"{links}.every((one) => document.querySelector(one) !== null)")
+    browser.evaluate("document.querySelector('.contents a[href=\"#tables\"]').click()")
+    browser.wait("location.hash === '#tables'")
+    assert message(browser).endswith(STEPS)
+    browser.call("Emulation.clearDeviceMetricsOverride")
 
 
 @needs_chromium

@@ -176,6 +176,26 @@ def test_battery_lives_of_the_line(line: Log) -> None:
         planning.battery_life(line, sleep_ma=-1)
 
 
+def test_nodes_on_mains_have_no_battery_life(line: Log) -> None:
+    """Node 1 has its radio on for less than node 2, so of a target between their lives one is reached."""
+    lives = planning.battery_life(line).set_index("node")
+    apart = planning.battery_life(line, mains=[3], target_days=(lives.loc[1, "days"] + lives.loc[2, "days"]) / 2).set_index("node")
+    assert apart["reaches_target"].to_dict() == {1: "yes", 2: "no", 3: "mains"} and apart.loc[3, ["days", "days_in_rounds"]].isna().all()
+    assert apart["mean_ma"].equals(lives["mean_ma"]) and apart.loc[[1, 2], "days"].equals(lives.loc[[1, 2], "days"])
+    named = results.log(Scenario.read("#: name 3 well\n" + LINE))
+    assert planning.battery_life(named, mains="well")["days"].isna().tolist() == [False, False, True]
+    with pytest.raises(ValueError, match="no node pump"):
+        planning.battery_life(named, mains=["pump"])
+    with pytest.raises(ValueError, match="`target_days` is -1"):
+        planning.battery_life(named, target_days=-1)
+    words = {"mains": ["well", 2], "target_days": 1000}
+    last = findings.of(named, battery=words)[-1]
+    days = planning.battery_life(named)["days"][0]
+    assert f"a battery would last {days:.0f} days (node 1) to {days:.0f} days (node 1)" in last and "; on mains: node 2, well)" in last
+    assert last.endswith(" 0 of 1 batteries last the 1000 days that are asked for.")
+    assert findings.of(named, battery={"mains": [1, 2, 3]})[-1].startswith("No radio that was on has a battery")
+
+
 # Two contenders.
 
 
@@ -384,7 +404,8 @@ def test_a_stream_that_the_next_host_never_accepts_is_in_the_main_numbers() -> N
     assert planning.summary(FAILOVER)["never_accepted"] == 0
     assert any("later hosts never accepted 1 of 1" in sentence for sentence in findings.of(log))
     assert not any("never accepted" in sentence for sentence in findings.of(log_of(FAILOVER)))
-    assert "<b>1</b>times that a stream was never accepted by a host" in page._numbers(log, settings.Settings())
+    words = "times that a stream was never accepted by a host, over all hosts"
+    assert {"value": "1", "words": words} in page._numbers(log, settings.Settings())
 
 
 # Windows that meet after a clock was set back.

@@ -15,7 +15,7 @@ import pytest
 from networks import FAILOVER, LINE
 from scipy import stats
 
-from foldcairn import commands, compare, losses, planning, plans, program, tallies
+from foldcairn import commands, compare, differences, losses, planning, plans, program, tallies
 from foldcairn.__main__ import main
 from foldcairn.arguments import ArgumentError
 from foldcairn.scenario import Scenario
@@ -51,7 +51,7 @@ def test_compare(folder: Path, capsys: pytest.CaptureFixture[str], undrawn: None
     assert "of what was put was delivered at whichever host serves" in told[1]
     page = (folder / "both.html").read_text()
     assert "Site: North slope" in page and "For the &lt;council&gt;." in page and "hosts: cellar (rank 0), stairs (rank 1)" in page
-    assert "<h2>What was run</h2><p>Seeds: 1, 2. " in page and f"<code>{program.checksum()}</code>" in page
+    assert "<p>Seeds: 1, 2. " in page and f"<code>{program.checksum()}</code>" in page
     assert len(set(re.findall("its ratios is <code>([0-9a-f]{64})</code>", page))) == 2
     assert "The radios of plan B where its host fails" in page and len(list((folder / "kept").iterdir())) == 4
     # What is kept gives the same once more.
@@ -164,7 +164,7 @@ def test_seeds_without_an_answer_are_told() -> None:
     assert (joined["A"], joined["B"], joined["better"], joined["missing"]) == (46, 26, "", "B in 1 of 2 seeds")
     outage = rows.loc["longest outage at a change of hosts, or to the end"]
     assert (outage["better"], outage["missing"]) == ("B", "")
-    assert "none: B in 1 of 2 seeds</th>" in compare._answers(rows.reset_index(), ["A", "B"], [1, 2])
+    assert [row["missing"] for row in compare._rows(rows.reset_index(), ["A", "B"]) if row["missing"]] == ["B in 1 of 2 seeds"]
     # With losses that are drawn, two seeds with the same difference are no proof.
     assert (compare._table(told, ["A", "B"], "nobody")["better"] == "").all()
 
@@ -206,7 +206,7 @@ def test_plans_of_any_kind() -> None:
     sure = [Scenario.read(LINE).pair(2, 3, 0.999999), Scenario.read(LINE).pair(2, 3, 0.5)]
     row = planning_compare(sure, seeds=[1, 2], by="sample").table.iloc[0]
     assert (row["1"], row["packets"]) == (100, 2) and row["1 ±"] == pytest.approx(100 - 100 * 0.025**0.5)
-    assert "<br>of 2 packets</th>" in compare._answers(planning_compare(sure, seeds=[1, 2], by="sample").table, ["1", "2"], [1, 2])
+    assert compare._rows(planning_compare(sure, seeds=[1, 2], by="sample").table, ["1", "2"])[0]["packets"] == 2
     for given, says in ((lossy[0], "was given a Scenario; write {'A': a, 'B': b}"), (lossy[:1], "was given 1"), (7, "was given a int")):
         with pytest.raises(ArgumentError, match=f"a comparison takes two plans or more by their names, and {says}"):
             planning_compare(given)
@@ -214,6 +214,27 @@ def test_plans_of_any_kind() -> None:
         planning_compare({"A": lossy[0], "B": LINE})
     with pytest.raises(ArgumentError, match="`seeds` has no seed"):
         planning_compare(lossy, seeds=[])
+
+
+def test_in_what_plans_differ() -> None:
+    """Each setting that differs is named; of the same number of links, what are others is said."""
+    plan = Scenario.read(FAILOVER)
+    assert differences.of({"A": plan, "B": plan.copy()}) == {}
+    other = plan.copy().unlink(1, 3).link(3, 1, 0.9).link(1, 3)
+    other.sends, other.profile, other.contend = 1, 2, 3
+    assert differences.of({"A": plan, "B": other, "C": plan}) == {
+        "profile": ["1", "2", "1"],
+        "transmissions of a node in a flood, at most (sends)": ["2", "1", "2"],
+        "contention slots of a round (contend)": ["1", "3", "1"],
+        "links that lose something": ["0", "1", "0"],
+        "streams": ["1 ask for 4 s, packets: 80 s", "1 ask for 4 s, packets: 100 s", "1 ask for 4 s, packets: 80 s"],
+        "what happens": ["At 24 s node 1 is switched off.", "At 30 s node 1 is switched off.", "At 24 s node 1 is switched off."],
+    }
+    others = plan.copy()
+    others.links = {(1, 2), (2, 1), (1, 3), (3, 1), (2, 3)}
+    fewer = others.copy()
+    fewer.links = fewer.links - {(2, 3)} | {(3, 2)}
+    assert differences.of({"A": others, "B": fewer}) == {"links": ["5", "5, others"]}
 
 
 @pytest.mark.parametrize(

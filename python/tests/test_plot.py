@@ -6,21 +6,25 @@ A picture is judged by eyes; these tests say that what is drawn is what it shoul
 from __future__ import annotations
 
 import math
+import re
 from itertools import combinations
 from pathlib import Path
+from random import Random
 from weakref import WeakSet
 
 import numpy as np
 import pandas as pd
 import pytest
+from browser import CHROMIUM, Browser
 from matplotlib.collections import LineCollection
 from matplotlib.figure import Figure
 from matplotlib.text import Annotation, Text
+from matplotlib.transforms import Bbox
 from networks import CONTENDERS, FAILOVER, LINE, log_of
 from PIL import Image
 
 from conftest import EXAMPLES
-from foldcairn import planning, plot, results, timing
+from foldcairn import maps, planning, plot, results, timing
 from foldcairn.__main__ import main
 from foldcairn.scenario import Scenario, grid, line, random_geometric, star
 
@@ -247,6 +251,95 @@ def test_a_map_of_64_nodes_can_be_read() -> None:
     assert not [pair for pair in covered(figure) if set(pair) <= ids]
 
 
+def plant() -> tuple[Scenario, dict[int, tuple[float, float]]]:
+    """48 nodes with names on two floors, and some 600 links whose ratios fall with their length."""
+    drawn = Random(4)
+    places = {node: (5.0 * (node % 24) + drawn.uniform(0, 4), drawn.uniform(2, 40) + 55 * (node > 24)) for node in range(1, 49)}
+    made = Scenario(20, nodes={node: 0 for node in places}, hosts={0: 12, 1: 36})
+    made.labels = {node: f"{('L', 'T', 'AL', 'S')[node % 4]}-{node:0{2 + node % 2}}" for node in places}
+    for one, other in combinations(places, 2):
+        ratio = 1 / (1 + math.exp((math.dist(places[one], places[other]) - 38) / 6))
+        if ratio > 0.5:
+            made.pair(one, other, round(ratio, 3))
+    return made, places
+
+
+def circles(figure: Figure) -> dict[tuple[float, float], Bbox]:
+    """The nodes of a map by their places, as squares in pixels."""
+    drawn, found = figure.axes[0], {}
+    for mark in drawn.lines:
+        if len(mark.get_xdata()) == 1:
+            place = float(mark.get_xdata()[0]), float(mark.get_ydata()[0])
+            (x, y), half = drawn.transData.transform(place), mark.get_markersize() / 2 * figure.dpi / 72
+            found[place] = Bbox.from_extents(x - half, y - half, x + half, y + half)
+    return found
+
+
+def gap(box: Bbox, other: Bbox) -> float:
+    """How far a box is from the middle of another."""
+    x, y = (other.x0 + other.x1) / 2, (other.y0 + other.y1) / 2
+    return math.hypot(max(box.x0 - x, x - box.x1, 0), max(box.y0 - y, y - box.y1, 0))
+
+
+@pytest.mark.parametrize("placed", [True, False])
+def test_names_of_a_crowded_map(placed: bool) -> None:
+    """Each name is at its own node, on none, and covers no other; of many links the weak ones are left out, and that is said."""
+    made, places = plant()
+    figure = plot.topology(made, positions=places if placed else None)
+    assert covered(figure) == []
+    names = [text for text in figure.axes[0].texts if isinstance(text, Annotation) and text.get_text().split(" (")[0] in made.labels.values()]
+    nodes = circles(figure)
+    assert len(names) == len(nodes) == 48
+    for text in names:
+        box, own = Text.get_window_extent(text), nodes[tuple(map(float, text.xy))]
+        assert not [node for node in nodes.values() if box.shrunk(0.96, 0.9).overlaps(node)], text.get_text()
+        assert all(gap(box, own) <= gap(box, node) for node in nodes.values()), text.get_text()
+    told = next(word for word in words(figure) if "left out" in word)
+    left, whole = map(int, re.match(r"(\d+) of (\d+) links are left out: those below \d+ %, but for the best of each node.", told).groups())
+    assert whole == len(made.links) > 500 and whole - left <= 300 + 96
+
+
+def test_which_links_of_many_are_left_out() -> None:
+    made, places = plant()
+    # A node at the end that has weak links alone keeps the best of them, and a failed link is shown.
+    made.node(49).pair(48, 49, 0.2).pair(47, 49, 0.1)
+    ratios = made.prr_at(frame=0)
+    shown, told = maps._strong(made, ratios, {(1, 2)}, None)
+    strong = {link for link in made.links if ratios.get(link, 1.0) >= 0.95}
+    assert strong < shown and {(48, 49), (49, 48), (1, 2)} <= shown and not {(47, 49), (49, 47)} & shown
+    assert told == f"{len(made.links) - len(shown)} of {len(made.links)} links are left out: those below 95 %, but for the best of each node."
+    assert maps._strong(made, ratios, set(), 0.0) == (made.links, "")
+    few = Scenario.from_graph(grid(3, 3), 10).link(1, 2, 0.1)
+    assert maps._strong(few, few.prr_at(frame=0), set(), None) == (few.links, "")
+    with pytest.raises(ValueError, match="`least_ratio` is 2"):
+        plot.topology(few, least_ratio=2)
+
+
+@pytest.mark.parametrize(("name", "inside"), [("7", True), ("48", True), ("102", True), ("L-15", True), ("WWWW", False), ("A-101", False)])
+def test_names_that_are_inside_of_their_nodes_fit(name: str, inside: bool) -> None:
+    made = Scenario(10, nodes={1: 0, 2: 0, 3: 0}, labels={1: name}).pair(1, 2).pair(2, 3)
+    figure = plot.topology(made)
+    text = next(text for text in texts(figure) if text.get_text() == name)
+    assert isinstance(text, Annotation) != inside
+    if inside:
+        assert Text.get_window_extent(text).width <= 19.0 * figure.dpi / 72 and text.get_fontsize() >= 6.5
+
+
+@pytest.mark.skipif(CHROMIUM is None, reason="chromium is missing; tools/setup-python.sh --optional installs it (apt-get install chromium)")
+def test_names_of_a_crowded_map_in_a_browser(browser: Browser, tmp_path: Path) -> None:
+    """Also by the letters of a browser no two words of the SVG file cover each other."""
+    made, places = plant()
+    browser.call("Page.navigate", url=plot.save(plot.topology(made, positions=places), tmp_path / "map.svg").as_uri())
+    browser.wait("document.readyState === 'complete' && document.querySelector('text') !== null")
+    found = browser.evaluate(
+        "[...document.querySelectorAll('text')].map((one) => [one.textContent, one.getBoundingClientRect()])"
+        ".map(([word, box]) => [word, box.left, box.top, box.right, box.bottom])"
+    )
+    boxes = [(word, Bbox.from_extents(*box)) for word, *box in found]
+    assert len(boxes) > 50
+    assert [(one, other) for (one, box), (other, place) in combinations(boxes, 2) if box.shrunk(0.98, 0.75).overlaps(place.shrunk(0.98, 0.75))] == []
+
+
 def test_charts_of_tables(failover: results.Log) -> None:
     pairs = planning.delivery_ratio(failover, "pair")
     delivery = plot.delivery(pairs)
@@ -264,6 +357,19 @@ def test_charts_of_tables(failover: results.Log) -> None:
     assert {"88 s", "the host loses power", "first round of the new host"} <= set(words(outages))
     for figure in (delivery, latency, energy, outages):
         assert covered(figure) == []
+
+
+def test_latencies_far_from_each_other() -> None:
+    """A loop of a second beside one of minutes: each of its boxes can be seen, and the deadline is marked."""
+    table = pd.DataFrame({"source": [1] * 3 + [2] * 3, "stream": 0, "latency_seconds": [0.5, 1.0, 2.0, 40.0, 100.0, 413.0]})
+    figure = plot.latency(table, deadline_seconds=30)
+    drawn = figure.axes[0]
+    assert drawn.get_yscale() == "log" and {"1", "10", "100", "deadline 30 s", "seconds from put to delivery, logarithmic"} <= set(words(figure))
+    # The box of the short one, from 0.75 to 1.5 s, is at least a twentieth of the height.
+    low, high = (drawn.transAxes.inverted().transform(drawn.transData.transform((1, seconds)))[1] for seconds in (0.75, 1.5))
+    assert high - low > 0.05 and covered(figure) == []
+    near = plot.latency(table.iloc[:3])
+    assert near.axes[0].get_yscale() == "linear" and near.axes[0].get_ylim()[0] == 0
 
 
 def test_tables_that_cannot_be_drawn(failover: results.Log) -> None:

@@ -138,9 +138,9 @@ def test_the_page_has_the_names_the_notes_and_ten_lines(text: str) -> None:
     assert "<h1>Vineyard</h1>" in text and "Site: North slope · Plan: one backup" in text
     assert "<p>For the cooperative.</p><p>Ratios of &lt;March&gt;.</p>" in text
     findings = re.search(r'<ol class="findings">(.*?)</ol>', text, re.DOTALL)
-    assert findings and findings[1].count("<li>") == 10
-    for told in ("arrive at whichever host serves", "2500 mAh", "20 mA while it is on", "3 times a node was switched on again",
-                 "Rounds were opened by node 101", "s after the first start"):  # fmt: skip
+    assert findings and findings[1].count("<li>") == 11
+    for told in ("All that follows is of one draw, seed ", "arrive at whichever host serves", "2500 mAh", "20 mA while it is on",
+                 "3 times a node was switched on again", "Rounds were opened by node 101", "s after the first start"):  # fmt: skip
         assert told in findings[1], told
     assert "26 streams of 26 nodes that ask for a slot every 10 to 50 s" in text and "node 101 is switched off" in text
     assert len(text) < 10_000_000 and "Battery life in days (2500 mAh" in text and "docs/PLANNING.md" not in text
@@ -191,11 +191,15 @@ def test_plans_side_by_side(browser: Browser, given: SimpleNamespace, tmp_path: 
     assert len(told.runs) == 4 and len(list((tmp_path / "kept").iterdir())) == 4
     assert (tmp_path / "plans.html").read_text() == told.html and repr(told) == "<Comparison of A, B: 2 seeds>"
     browser.call("Page.navigate", url=(tmp_path / "plans.html").as_uri())
-    browser.wait("document.readyState === 'complete' && document.images.length === 4")
+    browser.wait("document.readyState === 'complete' && document.images.length === 3")
     assert browser.evaluate("[...document.images].every((image) => image.complete && image.naturalWidth > 200)")
-    heads = browser.evaluate("[...document.querySelectorAll('.plans thead th')].map((one) => one.textContent)")
+    heads = browser.evaluate("[...document.querySelectorAll('.answers thead th')].map((one) => one.textContent)")
     assert heads == ["", "A", "B", "better"]
-    assert browser.evaluate("document.querySelectorAll('.plans tbody tr').length") == len(told.table) == 11
-    assert "± " in browser.evaluate("document.querySelector('.plans tbody td').textContent")
+    assert browser.evaluate("document.querySelectorAll('.answers tbody tr').length") == len(told.table) == 11
+    assert "± " in browser.evaluate("document.querySelector('.answers tbody td').textContent")
     assert browser.evaluate("document.body.textContent.includes('The radios of plan B where its host fails')")
+    # The map of both is the same, and what differs is named.
+    assert browser.evaluate("[...document.querySelectorAll('.figure h2')].map((one) => one.textContent)")[0] == "The network, all plans"
+    differ = browser.evaluate("[...document.querySelectorAll('.differences td')].map((one) => one.textContent)")
+    assert differ[:2] == ["At 24 s node 1 is switched off.", "At 48 s node 1 is switched off."]
     assert pd.isna(told.table["A"]).sum() < 6

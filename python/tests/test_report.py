@@ -11,7 +11,10 @@ import pandas as pd
 import pytest
 from networks import FAILOVER, LINE, log_of
 
-from foldcairn import __main__, planning, program, results
+import foldcairn
+from foldcairn import __main__, losses, page as pages, planning, program, report, results, sample_page
+from foldcairn.__main__ import main
+from foldcairn.scenario import Scenario
 
 
 def test_all_tables_as_text(tmp_path: Path, capsys: pytest.CaptureFixture[str]) -> None:
@@ -96,3 +99,94 @@ def test_a_file_that_cannot_be_read(tmp_path: Path, capsys: pytest.CaptureFixtur
     monkeypatch.setattr(Path, "read_bytes", denied)
     assert __main__.main(["report", "kept"]) == 3
     assert capsys.readouterr().err == "foldcairn: the file 'kept' can't be read: Permission denied\n"
+
+
+DRAW = "one draw, seed"
+
+
+@pytest.fixture
+def network(tmp_path: Path, monkeypatch: pytest.MonkeyPatch) -> Scenario:
+    """A line of three nodes whose second link loses much, in the files line.scenario, links.csv and line.network."""
+    monkeypatch.chdir(tmp_path)
+    made = Scenario.read(LINE.replace("frames 12", "frames 40")).every(4, 3, start=40)
+    Path("line.scenario").write_text(made.text(warn=False))
+    Path("links.csv").write_text("from,to,prr\n2,3,0.5\n3,2,0.5\n")
+    made.pair(2, 3, 0.5)
+    Path("line.network").write_text(made.network_text(warn=False))
+    return made
+
+
+@pytest.mark.parametrize(
+    ("words", "seed"),
+    [
+        (["line.scenario", "--ratios", "links.csv"], 1), (["line.scenario", "--ratios", "links.csv", "--seed", "3"], 3), (["line.network"], 1),
+        (["line.network", "--seed", "3"], 3), (["drawn.scenario"], 4),
+    ],
+)  # fmt: skip
+def test_ratios_are_drawn_once_and_that_is_said(
+    words: list[str], seed: int, network: Scenario, capsys: pytest.CaptureFixture[str], undrawn: None
+) -> None:  # fmt: skip
+    """What is told is a run with the losses of the seed, and each table says so in its title."""
+    Path("drawn.scenario").write_text(losses.draw(network, 4).text(warn=False))
+    expected = planning.tables(results.log(losses.draw(network, seed), warn=False))
+    assert main(["report", *words]) == 0
+    told = capsys.readouterr().out
+    titles = [line for line in told.splitlines() if DRAW in line]
+    assert len(titles) == len(report.SHOWN) and all(line.endswith(f"({DRAW} {seed})") for line in titles)
+    assert told == report.shown(expected, {name: f"{title} ({DRAW} {seed})" for name, title in report.titles(network, None, {}).items()})
+    assert expected["delivery-by-stream"]["ratio_of_put"][0] < 1
+    assert main(["report", *words, "--json", "--html", "line.html"]) == 0
+    assert json.loads(capsys.readouterr().out)["seed"] == seed
+    page = Path("line.html").read_text()
+    head = page[page.index("<h1>") : page.index("<h2")]
+    assert f"<b>One draw, seed {seed}</b> (1 where none is named)" in head and f"The radios ({DRAW} {seed})" in page
+
+
+def test_what_was_not_drawn_says_so(network: Scenario, capsys: pytest.CaptureFixture[str], undrawn: None) -> None:
+    assert main(["report", "line.scenario", "--html", "line.html"]) == 0
+    page = Path("line.html").read_text()
+    assert "draw" not in page[page.index("<h1>") : page.index("<h2")] and "(one draw" not in page
+    # A run in Python by hand, without its losses.
+    assert "<b>No losses were drawn:</b> the reception ratios" in pages.text(results.log(network, warn=False))
+    Path("whole.csv").write_text("from,to,prr\n2,3,1\n")
+    for words in (["line.scenario"], ["line.scenario", "--ratios", "whole.csv"]):
+        assert main(["report", *words]) == 0 and DRAW not in capsys.readouterr().out
+
+
+def test_the_timeline_and_tables_of_one_seed_say_so(network: Scenario, capsys: pytest.CaptureFixture[str]) -> None:
+    Path("drawn.scenario").write_text(losses.draw(network, 4).text(warn=False))
+    assert main(["timeline", "drawn.scenario"]) == 0 and f"{DRAW} 4" in Path("timeline.svg").read_text()
+    assert main(["timeline", "line.scenario"]) == 0 and DRAW not in Path("timeline.svg").read_text()
+    for words in (["capacity", "line.network", "--every", "20"], ["importance", "line.network", "--seeds", "1-1"],
+                  ["compare", "A=line.network", "B=line.network", "--seeds", "1", "--by", "sample"]):  # fmt: skip
+        assert main([*words, "--jobs", "1"]) == 0
+        assert capsys.readouterr().out.startswith("One draw, seed 1\n\n")
+    assert "Means over one draw, seed 1; it gives no interval" in Path("plans.html").read_text()
+    assert main(["importance", "line.network", "--seeds", "1-2", "--jobs", "1"]) == 0
+    assert "draw" not in capsys.readouterr().out
+    assert "one draw, seed 5" in foldcairn.run(network, seed=5, progress=False)._repr_html_()
+    assert "It was run with one draw, seed 9. " in sample_page.text(planning.sample(network, [9], progress=False), "One", {})
+
+
+@pytest.mark.parametrize(
+    ("words", "says"),
+    [
+        (["line.scenario", "--seed", "2"], "line.scenario has no reception ratios, so there is nothing to draw by `--seed`: name them by `--ratios`"),
+        (["drawn.scenario", "--seed", "2"], "the losses of drawn.scenario are drawn already, by seed 4: leave `--ratios` and `--seed` out"),
+        (["drawn.scenario", "--ratios", "links.csv"], "are drawn already, by seed 4"), (["line.scenario", "--ratios", "none.csv"], "none.csv"),
+    ],
+)
+def test_a_draw_that_cannot_be(words: list[str], says: str, network: Scenario, capsys: pytest.CaptureFixture[str]) -> None:
+    Path("drawn.scenario").write_text(losses.draw(network, 4).text(warn=False))
+    assert main(["report", *words]) == 1
+    told = capsys.readouterr()
+    assert says in told.err and told.out == ""
+
+
+def test_too_many_losses(network: Scenario, capsys: pytest.CaptureFixture[str], monkeypatch: pytest.MonkeyPatch) -> None:
+    def fails(*_: object, **__: object) -> None:
+        raise losses.TooManyLosses(7, 3)
+
+    monkeypatch.setattr(losses, "draw", fails)
+    assert main(["report", "line.network"]) == 1
+    assert str(losses.TooManyLosses(7, 3)) in capsys.readouterr().err

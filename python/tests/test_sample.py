@@ -99,6 +99,11 @@ def test_the_tables_of_streams_and_nodes_by_hand(worked: Sample) -> None:
     assert worked.battery_life("all", capacity_mah=1300)["mean"][0] == pytest.approx(lives.loc[(3, "days"), "mean"] / 2)
     assert worked.network(capacity_mah=1300).set_index("quantity").loc["days", "mean"] == pytest.approx(lives.loc[(3, "days"), "mean"] / 2)
     assert worked.runs["days"].tolist() == pytest.approx(lives.loc[(3, "days"), ["greatest", "least"]].tolist())
+    # A node on mains has no battery, so the shortest life is that of another one.
+    apart = worked.battery_life(mains=[3]).set_index(["node", "quantity"])
+    assert apart.loc[(3, "days"), "seeds"] == 0 and apart.loc[(1, "days")].equals(lives.loc[(1, "days")])
+    shortest = min(lives.loc[(1, "days"), "least"], lives.loc[(2, "days"), "least"])
+    assert worked.network(mains=[3]).set_index("quantity").loc["days", "least"] == pytest.approx(shortest)
 
 
 def test_the_object_says_what_it_is(worked: Sample) -> None:
@@ -455,6 +460,9 @@ def test_the_page_of_the_command(folder: Path, capsys: pytest.CaptureFixture[str
     assert main(["sample", "line.network", "--seeds", "7-8", "--deadline", "30", "--html", "line.html"]) == 0
     page = (folder / "line.html").read_text()
     assert capsys.readouterr().out == "" and page.startswith("<!DOCTYPE html>") and "<title>line</title>" in page
+    # Words, and no identifiers.
+    assert "<td>delivered, part of what was put</td>" in page and "<dt>half of the deliveries came within, s, " in page
+    assert not re.findall(r"<t[dh]>(?:\w+_\w+|p\d+)</t[dh]>|<dt>\w+_\w+", page)
     for part in ("Seeds: 7 to 8", "Battery life in days (2600 mAh", "Part that is delivered within 30 s", "data:image/svg+xml", "how many seeds have it"):
         assert part in page
     # Seeds that do not follow each other are listed.

@@ -168,7 +168,7 @@ def test_names_on_the_command_line(named: results.Log, tmp_path: Path, monkeypat
     assert main(["report", "named.scenario", "--receivers", "cellar"]) == 0
     told = capsys.readouterr().out
     assert "Delivery ratio by stream, at cellar" in told and re.search(r"^ +pump +0 ", told, re.MULTILINE)
-    assert main(["report", "plain.scenario", "--receivers", "cellar", "--places", "places.csv", "--ratios", "links.csv"]) == 0
+    assert main(["report", "plain.scenario", "--receivers", "cellar", "--places", "places.csv"]) == 0
     assert capsys.readouterr().out == told
     for name in ("named", "plain"):
         assert main(["topology", f"{name}.scenario", "--places", "places.csv", "--ratios", "links.csv", "-o", f"{name}.svg"]) == 0

@@ -25,6 +25,7 @@ try:
     from .cautions import of
     from .commands import Commands
     from .scenario import Scenario, ScenarioWarning
+    from .visible import csv, visible
 except ModuleNotFoundError as error:
     sys.exit(f"foldcairn: {front_end.missing(error)}")
 except KeyboardInterrupt:
@@ -65,14 +66,14 @@ def main(arguments: Sequence[str] | None = None) -> int:
     except ModuleNotFoundError as error:
         print(f"foldcairn: {front_end.missing(error)}", file=sys.stderr)
     except commands.Unreadable as error:
-        print(f"foldcairn: {error}", file=sys.stderr)
+        print(visible(f"foldcairn: {error}"), file=sys.stderr)
         return _UNREADABLE
     except OSError as error:
         if error.filename is None and error.errno in _OF_OUTPUT:
             return _unwritten(error)
-        print(f"foldcairn: {_in_words(error)}", file=sys.stderr)
+        print(visible(f"foldcairn: {_in_words(error)}"), file=sys.stderr)
     except (program.ProgramError, commands.Failed, sweep.SweepStopped, ValueError) as error:
-        print(f"foldcairn: {error}", file=sys.stderr)
+        print(visible(f"foldcairn: {error}"), file=sys.stderr)
     except KeyboardInterrupt:
         print("foldcairn: stopped", file=sys.stderr)
         return 130
@@ -112,7 +113,7 @@ def _show_warning(shown: set[str], message: Warning | str, *_: object, **__: obj
     if str(message) in shown:
         return
     shown.add(str(message))
-    print(f"foldcairn: warning: {message}", file=sys.stderr)
+    print(visible(f"foldcairn: warning: {message}"), file=sys.stderr)
 
 
 class _Version(argparse.Action):
@@ -151,7 +152,7 @@ def _draw(chosen: argparse.Namespace) -> int:
         drawn = losses.draw(scenario, chosen.seed, results=chosen.results, progress=True)
     except losses.TooManyLosses as error:
         raise commands.Failed(str(error)) from error
-    sys.stdout.write(drawn.text())
+    commands.say(drawn.text())
     return 0
 
 
@@ -211,7 +212,7 @@ def _sweep(chosen: argparse.Namespace) -> int:
     measures: dict[str, sweep.Measure] = {"planning": partial(planning.summary, receivers=whom), "sums": sweep.summary}
     with plans.workers(chosen.jobs) as pool:
         table = sweep.sweep(build, cases, measures[chosen.measure], executor=pool, results=chosen.results)
-    sys.stdout.write(report.as_json({"cases": table}, table.attrs) if chosen.json else table.to_csv(index=False))
+    commands.say(report.as_json({"cases": table}, table.attrs) if chosen.json else csv(table))
     return 0 if (table.status == "ok").all() else _FAILED
 
 
@@ -233,7 +234,7 @@ def _explain(chosen: argparse.Namespace) -> int:
     program.execute(["outcome", "1"] if has_ratios else ["bus" if chosen.command == "run" else chosen.command], text)
     cautions = of(Scenario.read(text), long=has_ratios) if chosen.command == "run" else []
     for caution in cautions:
-        print(f"warning: {caution}")
+        commands.say(f"warning: {caution}\n")
     if not cautions:
         print("accepted, and nothing to remark")
     return 0

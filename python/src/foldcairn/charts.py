@@ -13,7 +13,7 @@ import pandas as pd
 from matplotlib.axes import Axes
 from matplotlib.figure import Figure
 from matplotlib.patches import Patch
-from matplotlib.ticker import PercentFormatter
+from matplotlib.ticker import FuncFormatter, LogLocator, NullLocator, PercentFormatter
 
 from . import radio, style
 
@@ -21,6 +21,8 @@ from . import radio, style
 SCALE = "cividis"
 # Up to so many columns there is room for counts in the cells.
 _COUNTS_MOST = 6
+# Latencies are on a logarithmic axis where the greatest is so many times the least.
+_FAR = 20.0
 
 
 def delivery(
@@ -41,12 +43,12 @@ def delivery(
         drawn.set_facecolor(style.OFF)
         ratios = table.to_numpy(dtype="float64")
         image = drawn.imshow(ratios, cmap=SCALE, vmin=0, vmax=1, aspect="auto")
-        drawn.set_xticks(range(table.shape[1]), [str(node) for node in table.columns])
+        drawn.set_xticks(range(table.shape[1]), [str(node) for node in table.columns], parse_math=False)
         # Where a cell has its own count, no count of the stream is needed.
         counts = pairs.groupby(["source", "stream"])["put"].max() if "put" in pairs and table.shape[1] > _COUNTS_MOST else None
         packets = {} if counts is None else counts.to_dict()
         names = [name + (f" ({packets[key]:g})" if key in packets else "") for key, name in zip(table.index, _names(table.index))]
-        drawn.set_yticks(range(len(table)), names)
+        drawn.set_yticks(range(len(table)), names, parse_math=False)
         drawn.set_xlabel("receiving node")
         drawn.set_ylabel(_of_streams(table.index) + (", and how many packets it put" if packets else ""))
         words = _cells(pairs, table)
@@ -96,14 +98,18 @@ def _cells(pairs: pd.DataFrame, table: pd.DataFrame) -> list[list[str]]:
 
 
 def _percent(ratio: float) -> str:
-    """A ratio in percent, rounded down, so that 100 is all."""
-    return str(int(100 * ratio + 1e-9))
+    """A ratio in percent, rounded; 0 is none and 100 is all."""
+    rounded = int(100 * ratio + 0.5 + 1e-9)
+    return ">99" if rounded == 100 and ratio < 1 else "<1" if rounded == 0 and ratio > 0 else str(rounded)
 
 
-def latency(deliveries: pd.DataFrame, *, title: str | None = None, axes: Axes | None = None) -> Figure:
+def latency(
+    deliveries: pd.DataFrame, *, deadline_seconds: float | None = None, title: str | None = None, axes: Axes | None = None
+) -> Figure:  # fmt: skip
     """How the latencies of each stream are distributed, in seconds, of a table of `planning.latencies(log)`: a box from the
-    first quartile to the third with a line at the median, and whiskers from the least to the greatest. The latencies of a report
-    without a log are by plan, and the axis says so.
+    first quartile to the third with a line at the median, and whiskers from the least to the greatest. Where the greatest is more than
+    20 times the least the axis is logarithmic, and says so. A line marks the deadline, if one is given. The latencies of a report without a
+    log are by plan, and the axis says so too.
 
     With `axes` it is drawn there, as a part of their figure. Raises `ValueError` where the table has not its columns, or no rows.
     """
@@ -119,15 +125,32 @@ def latency(deliveries: pd.DataFrame, *, title: str | None = None, axes: Axes | 
             boxprops={"facecolor": "#9ec5e8", "edgecolor": style.RECEIVES}, medianprops={"color": style.TRANSMITS, "linewidth": 1.8},
             whiskerprops={"color": style.RECEIVES}, capprops={"color": style.RECEIVES},
         )  # fmt: skip
-        drawn.set_xticks(range(1, len(names) + 1), names)
-        drawn.set_ylim(bottom=0)
+        drawn.set_xticks(range(1, len(names) + 1), names, parse_math=False)
+        far = _scale(drawn, float(deliveries[column].min()), float(deliveries[column].max()))
+        if deadline_seconds is not None:
+            drawn.axhline(deadline_seconds, color=style.TRANSMITS, linestyle="--", linewidth=1.2, zorder=1)
+            drawn.annotate(f"deadline {deadline_seconds:g} s", (1, deadline_seconds), (2, 0), xycoords=("axes fraction", "data"),
+                           textcoords="offset points", fontsize=8, va="center", color=style.TRANSMITS)  # fmt: skip
         drawn.grid(axis="y", color=style.FAINT, linewidth=0.5)
         drawn.set_xlabel(_of_streams(groups.groups))
-        drawn.set_ylabel("seconds from put to delivery" + (", by plan" if by_plan else ""))
+        drawn.set_ylabel("seconds from put to delivery" + (", by plan" if by_plan else "") + (", logarithmic" if far else ""))
         if len(names) > 12:
             drawn.tick_params(axis="x", rotation=90)
         drawn.set_title(title or "Latency: least, quartiles, median and greatest")
     return figure
+
+
+def _scale(drawn: Axes, least: float, greatest: float) -> bool:
+    """Sets the scale of latencies, and gives whether it is logarithmic: then short ones are told apart beside long ones."""
+    far = least > 0 and greatest > _FAR * least
+    if far:
+        drawn.set_yscale("log")
+        drawn.yaxis.set_major_locator(LogLocator(10, (1, 2, 5)))
+        drawn.yaxis.set_major_formatter(FuncFormatter(lambda seconds, _: f"{seconds:g}"))
+        drawn.yaxis.set_minor_locator(NullLocator())
+    else:
+        drawn.set_ylim(bottom=0)
+    return far
 
 
 def energy(times: pd.DataFrame, *, title: str | None = None, axes: tuple[Axes, Axes] | None = None) -> Figure:
@@ -144,7 +167,7 @@ def energy(times: pd.DataFrame, *, title: str | None = None, axes: tuple[Axes, A
         _stack(left, table, list(radio.PURPOSES))
         _stack(right, table, [purpose for purpose in radio.PURPOSES if purpose != "searching"])
         for drawn in (left, right):
-            drawn.set_yticks(range(len(table)), [node if isinstance(node, str) else f"node {node}" for node in table.index])
+            drawn.set_yticks(range(len(table)), [node if isinstance(node, str) else f"node {node}" for node in table.index], parse_math=False)
             drawn.set_ylim(len(table) - 0.4, -0.6)
             drawn.set_xlabel("seconds with the radio on")
         left.set_title(title or "Time with the radio on")
@@ -194,7 +217,7 @@ def outages(streams: pd.DataFrame, *, title: str | None = None, axes: Axes | Non
         ):
             for number, seconds in enumerate(sorted(streams[name].dropna().unique())):
                 drawn.axvline(seconds, color=colour, linestyle=line, linewidth=1.4, zorder=1, label=None if number else words)
-        drawn.set_yticks(range(len(names)), _names(names))
+        drawn.set_yticks(range(len(names)), _names(names), parse_math=False)
         drawn.set_ylim(len(names) - 0.4, -0.6)
         drawn.set_xlim(low - 0.03 * (high - low), high + 0.12 * (high - low))
         drawn.set_xlabel("seconds from the start of the run")

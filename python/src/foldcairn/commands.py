@@ -16,6 +16,7 @@ from . import doubts, faults, lines, results, running, tables
 from .arguments import ArgumentError, did_you_mean
 from .receivers import ALL, HOSTS, Receivers
 from .scenario import Scenario
+from .visible import visible
 
 # These types have no public names.
 Commands: TypeAlias = "argparse._SubParsersAction[Any]"
@@ -104,12 +105,14 @@ def add_battery(parser: argparse.ArgumentParser) -> None:
     for name, words in (("transmit", "while the radio transmits (17.4)"), ("receive", "while it is on otherwise (18.8)"),
                         ("sleep", "while it is off (0)")):  # fmt: skip
         parser.add_argument(f"--{name}-ma", type=float, metavar="MA", help=f"the current {words}")
+    parser.add_argument("--mains", metavar="NODE,NODE,..", help="the nodes without a battery, by their ids or names")
 
 
-def battery(chosen: argparse.Namespace) -> dict[str, float]:
+def battery(chosen: argparse.Namespace) -> dict[str, Any]:
     """The words of `planning.battery_life` that are given."""
-    words = {name: getattr(chosen, name) for name in ("capacity_mah", "transmit_ma", "receive_ma", "sleep_ma")}
-    return {name: value for name, value in words.items() if value is not None}
+    words = {name: getattr(chosen, name, None) for name in ("capacity_mah", "transmit_ma", "receive_ma", "sleep_ma", "target_days")}
+    mains = {"mains": nodes(chosen.mains)} if chosen.mains else {}
+    return {**{name: value for name, value in words.items() if value is not None}, **mains}
 
 
 def add_places(parser: Options) -> None:
@@ -182,6 +185,11 @@ def set_ratios(made: Scenario, path: str | None) -> Scenario:
 def places(made: Scenario, path: str | None) -> dict[int, tuple[float, float]] | None:
     """The places of `--places`; where its nodes have names, the scenario gets these."""
     return None if path is None else tables.positions(path, made)
+
+
+def say(text: str) -> None:
+    """Writes a text on standard output, in which nothing is an escape code of a terminal."""
+    sys.stdout.write(visible(text))
 
 
 def log(path: str, seed: int | None) -> results.Log:

@@ -3,7 +3,6 @@
 from __future__ import annotations
 
 import functools
-import html
 import math
 import os
 from collections.abc import Callable, Iterable, Mapping, Sequence
@@ -16,7 +15,8 @@ import numpy as np
 import pandas as pd
 from numpy.typing import NDArray
 
-from . import arguments, files, findings, intervals, lines, losses, page, planning, plot, results as runs, sample, seeds as many, service, sweep, tallies
+from . import arguments, differences, files, findings, intervals, lines, losses, markup, page, planning, plot, results as runs, sample
+from . import seeds as many, service, sweep, tallies
 from .arguments import ArgumentError
 from .receivers import Receivers, meant
 from .results import Log
@@ -238,63 +238,52 @@ def _page(
     plans: Mapping[str, Scenario], logs: Mapping[str, Log], table: pd.DataFrame, seeds: Sequence[int], title: str, site: str, notes: str,
     positions: Mapping[int, tuple[float, float]] | None,
 ) -> str:  # fmt: skip
-    about = {name: page.about(logs[name]) if name in logs else page.about_network(network) for name, network in plans.items()}
-    listed = [f"{html.escape(name)}: {html.escape(words)}" for name, words in about.items()]
-    own = "".join(f"<p>{html.escape(part.strip())}</p>" for part in notes.split("\n\n") if part.strip())
-    parts = [
-        f"<h1>{html.escape(title)}</h1>",
-        f'<p class="where">Site: {html.escape(site)}</p>' if site else "",
-        f'<div class="notes">{own}</div>' if own else "",
-        "<ul>" + "".join(f"<li>{line}</li>" for line in listed) + "</ul>",
-        _answers(table, list(plans), seeds),
-        *(f'<section class="figure"><h2>The network, plan {html.escape(name)}</h2>{_map(one, positions)}</section>' for name, one in plans.items()),
-        *(_failure(name, log) for name, log in logs.items()),
-        _origin(table.attrs),
+    pictures = [*_maps(plans, positions), *(_failure(name, log) for name, log in logs.items())]
+    return markup.page(
+        "compare.html", title=title, site=site, notes=markup.paragraphs(notes), plans=list(plans), about=_about(plans),
+        differences=differences.of(plans), rows=_rows(table, list(plans)), pictures=pictures,
+        many=f"{len(seeds)} seeds" if len(seeds) > 1 else f"{findings.draw(seeds[0])}; it gives no interval", origin=table.attrs,
+    )  # fmt: skip
+
+
+def _about(plans: Mapping[str, Scenario]) -> dict[str, str]:
+    """What the plans are, with the names of those of which it is said."""
+    told: dict[str, list[str]] = {}
+    for name, network in plans.items():
+        told.setdefault(page.about_network(network), []).append(name)
+    return {_named(names, plans): words for words, names in told.items()}
+
+
+def _named(names: Sequence[str], plans: Mapping[str, Scenario]) -> str:
+    """Plans in words."""
+    return "all plans" if len(names) == len(plans) else f"plan{'s' * (len(names) > 1)} {', '.join(names)}"
+
+
+def _maps(plans: Mapping[str, Scenario], positions: Mapping[int, tuple[float, float]] | None) -> list[markup.Picture]:
+    """A map for all plans that have the same one."""
+    alike: dict[str, list[str]] = {}
+    for name, one in plans.items():
+        content = (sorted(one.nodes), sorted(one.links), sorted(one.hosts.items()), sorted(one.labels.items()), one.ratio_lines())
+        alike.setdefault(repr(content), []).append(name)
+    return [
+        markup.picture(f"The network, {_named(names, plans)}", functools.partial(plot.topology, plans[names[0]], positions=positions))
+        for names in alike.values()
     ]
-    css = (Path(__file__).parent / "page.css").read_text(encoding="utf-8")
-    head = f'<meta charset="utf-8"><meta name="viewport" content="width=device-width"><title>{html.escape(title)}</title>'
-    body = "\n".join(part for part in parts if part)
-    return f'<!DOCTYPE html>\n<html lang="en"><head>{head}<style>\n{css}</style></head>\n<body>\n{body}\n</body></html>\n'
 
 
-def _answers(table: pd.DataFrame, plans: list[str], seeds: Sequence[int]) -> str:
-    """The table, with the better plan marked."""
-    heads = "".join(f"<th>{html.escape(word)}</th>" for word in ("", *plans, "better"))
-    rows = []
-    for row in table.to_dict("records"):
-        cells = [_cell(row[plan], row[f"{plan} ±"], row["unit"], row["better"] == plan) for plan in plans]
-        none = f"<br>none: {html.escape(row['missing'])}" if row["missing"] else ""
-        none += f"<br>of {row['packets']:,} packets" if row["packets"] else ""
-        rows.append(f"<tr><th>{html.escape(row['answer'])}{none}</th>{''.join(cells)}<td>{html.escape(row['better'] or '–')}</td></tr>")
-    many = f"{len(seeds)} seeds" if len(seeds) > 1 else "one seed, which gives no interval"
-    return (
-        f'<h2>The answers</h2><p>Means over {many}, with the interval in which the mean lies with 95 %. A plan is marked where it is '
-        "better than each other by the differences with the same seed, with 95 %; where none is, more seeds may tell. Where some seeds have "
-        "no answer, the mean is that of the others, and no plan is marked.</p>"
-        f'<table class="plans"><thead><tr>{heads}</tr></thead><tbody>{"".join(rows)}</tbody></table>'
-    )
+def _rows(table: pd.DataFrame, plans: list[str]) -> list[dict[str, Any]]:
+    """The rows of the table of answers, with the cells of the plans, and which of them is the best."""
+    return [
+        {**row, "cells": [{"words": _cell(row[plan], row[f"{plan} ±"], row["unit"]), "best": row["better"] == plan} for plan in plans]}
+        for row in table[["answer", "unit", "better", "missing", "packets", *plans, *(f"{plan} ±" for plan in plans)]].to_dict("records")
+    ]
 
 
-def _origin(attrs: Mapping[Any, Any]) -> str:
-    """What was run, by which anyone can make the same runs again."""
-    texts = "".join(f"<li>Plan {html.escape(name)}: the SHA-256 of its text with its ratios is <code>{one}</code>.</li>" for name, one in attrs["text"].items())
-    return (
-        f"<h2>What was run</h2><p>Seeds: {', '.join(map(str, attrs['seeds']))}. The SHA-256 of the program is <code>{attrs['program']}</code>. "
-        f"It is proved to follow its rules; this page and its numbers are by the Python package {html.escape(attrs['package'])}, which is "
-        f"tested, not proved.</p><ul>{texts}</ul>"
-    )
+def _cell(mean: float, half: float, unit: str) -> str:
+    return "–" if math.isnan(mean) else f"{mean:.1f} {unit}" if math.isnan(half) else f"{mean:.1f} ± {half:.1f} {unit}"
 
 
-def _cell(mean: float, half: float, unit: str, best: bool) -> str:
-    told = "–" if math.isnan(mean) else f"{mean:.1f} {unit}" if math.isnan(half) else f"{mean:.1f} ± {half:.1f} {unit}"
-    return f'<td class="best">{told}</td>' if best else f"<td>{told}</td>"
-
-
-def _map(network: Scenario, positions: Mapping[int, tuple[float, float]] | None) -> str:
-    return page.picture("The network", lambda: plot.topology(network, positions=positions))
-
-
-def _failure(name: str, log: Log) -> str:
+def _failure(name: str, log: Log) -> markup.Picture:
     """The radios around the first change of hosts, or to the end where none takes over; the whole run if the host never fails."""
     changes = service.outages(log)
     start, end = 0.0, float(log.scenario.seconds)
@@ -304,5 +293,4 @@ def _failure(name: str, log: Log) -> str:
         last = first["first_delivery_seconds"] if first["ended"] else end
         start, end = max(0.0, begun - 60.0), min(end, last + 60.0)
     told = f"The radios of plan {name} where its host fails" if len(changes) else f"The radios of plan {name}, whose host never fails"
-    shown = page.picture(told, lambda: plot.timeline(log, start_seconds=start, end_seconds=end))
-    return f'<section class="figure"><h2>{html.escape(told)}</h2>{shown}</section>'
+    return markup.picture(told, lambda: plot.timeline(log, start_seconds=start, end_seconds=end))

@@ -2,7 +2,7 @@
 
 from __future__ import annotations
 
-from collections.abc import Iterable
+from collections.abc import Iterable, Mapping
 from typing import Any
 
 import pandas as pd
@@ -18,7 +18,7 @@ _SHOWN_MOST = 6
 
 def node(scenario: Scenario, one: int) -> str:
     """A node in a sentence: its name, or "node 7"."""
-    return scenario.labels.get(one, f"node {one}")
+    return scenario.name(one) if one in scenario.labels else f"node {one}"
 
 
 def nodes(scenario: Scenario, several: Iterable[int]) -> str:
@@ -26,6 +26,11 @@ def nodes(scenario: Scenario, several: Iterable[int]) -> str:
     listed = [node(scenario, one) for one in several]
     more = f" and {len(listed) - _SHOWN_MOST} more" if len(listed) > _SHOWN_MOST else ""
     return ", ".join(listed[:_SHOWN_MOST]) + more
+
+
+def draw(seed: int | None) -> str:
+    """By which draw of the losses an answer is; no words where none was drawn (None)."""
+    return "" if seed is None else f"one draw, seed {seed}"
 
 
 def whom(scenario: Scenario, receivers: Receivers) -> str:
@@ -39,10 +44,13 @@ def whom(scenario: Scenario, receivers: Receivers) -> str:
     return "all other nodes" if chosen == frozenset(scenario.nodes) else nodes(scenario, sorted(chosen))
 
 
-def of(log: Log, *, receivers: Receivers = None, battery: dict[str, float] | None = None) -> list[str]:
-    """Ten sentences with the main numbers of a run; `receivers` and `battery` are as in `planning.tables`."""
+def of(log: Log, *, receivers: Receivers = None, battery: dict[str, Any] | None = None, deadline: float | None = None) -> list[str]:
+    """Ten sentences with the main numbers of a run, after one that says by which draw of the losses they are; `receivers` and `battery` are
+    as in `planning.tables`, and `deadline` is a time in seconds from put to delivery."""
+    drawn = [f"All that follows is of {draw(log.scenario.seed)}."] if log.scenario.seed is not None else []
     return [
-        _delivered(log, receivers), _worst(log, receivers), _latency(log, receivers), _start(log), _power_cycles(log), _hosts(log),
+        *drawn, _delivered(log, receivers), _worst(log, receivers), _latency(log, receivers) + _in_time(log, receivers, deadline), _start(log),
+        _power_cycles(log), _hosts(log),
         _outage(log), _at_the_end(log), _duty(log), _battery(log, battery or {}),
     ]  # fmt: skip
 
@@ -75,6 +83,17 @@ def _latency(log: Log, receivers: Receivers) -> str:
     if not row["deliveries"]:
         return "Nothing arrives, so there is no latency."
     return f"Of what arrives half does within {row['median']:.1f} s, 90 % within {row['p90']:.1f} s, and all within {row['max']:.1f} s."
+
+
+def _in_time(log: Log, receivers: Receivers, seconds: float | None) -> str:
+    """Which part is delivered within the deadline, if there is one."""
+    if seconds is None:
+        return ""
+    row = delivery.deadline(log, seconds, "all", receivers=receivers).iloc[0]
+    due = int(row["due"])
+    if not due:
+        return f" None was due by a deadline of {seconds:g} s before the end of the run."
+    return f" Within the deadline of {seconds:g} s {_percent(row['share'])} of the {due:,} that were due by the end arrive."
 
 
 def _start(log: Log) -> str:
@@ -153,22 +172,31 @@ def _duty(log: Log) -> str:
     )
 
 
-def battery_words(battery: dict[str, float]) -> str:
-    """The battery and the currents, in words."""
+def battery_words(scenario: Scenario, battery: Mapping[str, Any]) -> str:
+    """The battery and the currents, and which nodes have none, in words."""
+    mains = nodes(scenario, sorted(radio.on_mains(scenario, battery.get("mains", ()))))
     given = {"capacity_mah": 2600.0, "transmit_ma": 17.4, "receive_ma": 18.8, "sleep_ma": 0.0, **battery}
     return (
         f"{given['capacity_mah']:g} mAh, {given['transmit_ma']:g} mA while the radio transmits, {given['receive_ma']:g} mA while it is on "
-        f"otherwise, {given['sleep_ma']:g} mA while it is off"
+        f"otherwise, {given['sleep_ma']:g} mA while it is off" + (f"; on mains: {mains}" if mains else "")
     )
 
 
-def _battery(log: Log, battery: dict[str, float]) -> str:
+def _battery(log: Log, battery: dict[str, Any]) -> str:
     table = radio.battery_life(log, **battery).dropna(subset=["days"])
     if table.empty:
-        return "No radio was on, so no battery life follows."
+        return f"No radio that was on has a battery, so no battery life follows ({battery_words(log.scenario, battery)})."
     least, most = table.loc[table["days"].idxmin()], table.loc[table["days"].idxmax()]
     return (
         f"If all its time were like this run, a battery would last {least['days']:.0f} days ({node(log.scenario, int(least['node']))}) to "
         f"{most['days']:.0f} days ({node(log.scenario, int(most['node']))}); without any searching {table['days_in_rounds'].min():.0f} days "
-        f"at the least ({battery_words(battery)})."
+        f"at the least ({battery_words(log.scenario, battery)}).{_target(table, battery)}"
     )
+
+
+def _target(table: pd.DataFrame, battery: Mapping[str, Any]) -> str:
+    """How many of the batteries last as long as they have to."""
+    if "reaches_target" not in table:
+        return ""
+    reached = int((table["reaches_target"] == "yes").sum())
+    return f" {reached} of {len(table)} batteries last the {battery['target_days']:g} days that are asked for."

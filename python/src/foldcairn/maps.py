@@ -8,7 +8,7 @@ from __future__ import annotations
 import io
 import math
 import os
-from collections.abc import Iterable, Mapping, Sequence
+from collections.abc import Iterable, Mapping
 
 import networkx
 import numpy as np
@@ -19,7 +19,7 @@ from matplotlib.lines import Line2D
 from numpy.typing import NDArray
 from PIL import Image
 
-from . import power, style
+from . import arguments, map_labels, power, style
 from .scenario import Link, Scenario
 
 Place = tuple[float, float]
@@ -27,11 +27,13 @@ Place = tuple[float, float]
 # The hops that a flood has steps for.
 _HOPS_MOST = 12
 _UNREACHED = "#f0c9cf"
-# Where a label may be, by steps to the right and up from its node.
-_SIDES = ((1, 0), (-1, 0), (0, 1), (0, -1), (1, 1), (-1, 1), (1, -1), (-1, -1), (1, 0.5), (-1, 0.5), (1, -0.5), (-1, -0.5))
-# Names of so many letters are inside of their nodes.
-_NAME_INSIDE = 4
+# The letters of names, and the smallest in which one is inside of its node.
+_LETTERS, _LETTERS_INSIDE = 8.0, 6.5
+# Of more links than these the weak ones are left out.
+_LINKS_MOST = 300
 _HALVES, _ARROWS = "The half of a line next to a node shows the link to that node.", "An arrow is a link in one direction."
+# How far the nearest nodes are apart, in inches: also where names are between them.
+_APART, _APART_NAMED = 0.36, 0.6
 # How near two nodes of a map may be, as a part of the length of a link.
 _NEAREST = 0.5
 
@@ -104,7 +106,7 @@ def _apart(spots: NDArray[np.float64], nearest: float = _NEAREST) -> NDArray[np.
 def topology(
     scenario: Scenario, *, positions: Mapping[int, Place] | None = None, failed: Iterable[Link] = (),
     at_seconds: float | None = None, title: str | None = None, background: str | os.PathLike[str] | bytes | None = None,
-    extent: tuple[float, float, float, float] | None = None, axes: Axes | None = None,
+    extent: tuple[float, float, float, float] | None = None, least_ratio: float | None = None, axes: Axes | None = None,
 ) -> Figure:  # fmt: skip
     """The nodes and links of a network: hosts are squares, a node's colour says how many hops it is from the host (`hops`), and
     the colour of a link its reception ratio. The half of a line next to a node is the link to it; a link that is in one
@@ -119,6 +121,9 @@ def topology(
     `background` is the file of a picture, or its bytes, as of a floor plan, that is drawn below the map, and `extent` says where it lies, as
     (left, right, bottom, top) in the units of the positions; without it a picture element is one unit, and its lower left corner is
     at (0, 0). With `axes` the map is drawn there, without the key, as a part of their figure.
+
+    Links below `least_ratio` (0 to 1) are left out, but for those that have failed and the best from and to each node, and the map says how
+    many. Without it all of 300 links are shown, and of more as few as one of the classes of ratios leaves.
 
     Raises `ValueError` where the scenario has no nodes, a node has no place, a failed link is none of the scenario, or a
     background is given without positions, and `OSError` where its file can't be read.
@@ -137,7 +142,9 @@ def topology(
     down = _without_power(scenario, at_seconds)
     ratios = scenario.prr_at(seconds=at_seconds or 0)
     broken = _failed(scenario, ratios, failed, down)
-    width, height = _size(laid, extent if background is not None else None)
+    shown, left_out = _strong(scenario, ratios, broken, least_ratio)
+    outside = any(not _inside(scenario.name(node), _marker(laid)) for node in laid)
+    width, height = _size(laid, extent if background is not None else None, _APART_NAMED if outside else _APART)
     laid = _seen(laid, width, height)
     with style.settings():
         figure, drawn = style.axes(width, height, axes)
@@ -145,13 +152,16 @@ def topology(
         drawn.set_axis_off()
         if background is not None:
             _draw_background(drawn, background, extent)
-        _draw_links(drawn, scenario, ratios, laid, broken)
+        _draw_links(drawn, scenario, ratios, laid, broken, shown)
         _draw_nodes(drawn, scenario, laid, hops(scenario, failed=failed, at_seconds=at_seconds), down)
         drawn.margins(0.08)
-        style.heading(drawn, title or f"{len(scenario.nodes)} nodes, {len(scenario.links)} links", _reading(scenario), above=16)
+        note = "\n".join(filter(None, [left_out, _reading(scenario)]))
+        style.heading(drawn, title or f"{len(scenario.nodes)} nodes, {len(scenario.links)} links", note, above=16)
         if axes is None:
             style.key(drawn, 4, below=0.1)
-        _draw_names(drawn, scenario, laid, down)
+        _draw_names(drawn, scenario, laid, down, shown)
+        if axes is None:
+            _keep_layout(drawn)
     return figure
 
 
@@ -182,13 +192,13 @@ def _failed(scenario: Scenario, ratios: Mapping[Link, float], failed: Iterable[L
     return gone | set(failed)
 
 
-def _size(laid: Mapping[int, Place], extent: tuple[float, float, float, float] | None) -> tuple[float, float]:
-    """Width and height of the picture in inches, in which the nearest nodes are apart; a background may be larger than the network."""
+def _size(laid: Mapping[int, Place], extent: tuple[float, float, float, float] | None, apart: float) -> tuple[float, float]:
+    """Width and height of the picture in inches, in which the nearest nodes are so far apart; a background may be larger than the network."""
     spots = np.array(list(laid.values()), dtype=np.float64)
     distance = np.linalg.norm(spots[:, None] - spots[None], axis=2)
     nearest = distance[distance > 0].min(initial=np.inf)
     corners = [] if extent is None else [(extent[0], extent[2]), (extent[1], extent[3])]
-    wide, tall = np.ptp([*spots, *corners], axis=0) / nearest * 0.36 if len(laid) > 1 else (0.0, 0.0)
+    wide, tall = np.ptp([*spots, *corners], axis=0) / nearest * apart if len(laid) > 1 else (0.0, 0.0)
     larger = float(np.clip(6.0 / max(wide, 1e-9), 1.0, 3.0))
     return float(np.clip(larger * wide + 1.0, 7.5, 16)), float(np.clip(larger * tall, 0.8, 14)) + 1.6
 
@@ -203,10 +213,27 @@ def _seen(laid: Mapping[int, Place], width: float, height: float) -> dict[int, P
     return {node: (float(x), float(y)) for node, (x, y) in zip(laid, moved)}
 
 
+def _strong(scenario: Scenario, ratios: Mapping[Link, float], broken: set[Link], least: float | None) -> tuple[set[Link], str]:
+    """The links that are shown, and how many are left out, in words."""
+    of = {link: ratios.get(link, 1.0) for link in sorted(scenario.links)}
+    if least is None:
+        classes = [0.0, *sorted(one for one, _, _ in style.RATIOS if one > 0)]
+        fits = [one for one in classes if sum(ratio >= one for ratio in of.values()) <= _LINKS_MOST]
+        least = fits[0] if fits else classes[-1]
+    least = arguments.real("least_ratio", least, 0, 1)
+    best: dict[tuple[str, int], Link] = {}
+    for link in sorted(set(of) - broken, key=lambda link: of[link]):
+        best["from", link[0]] = best["to", link[1]] = link
+    shown = {link for link, ratio in of.items() if ratio >= least} | set(best.values()) | broken
+    away = len(of) - len(shown & set(of))
+    words = f"{away} of {len(of)} links are left out: those below {100 * least:g} %, but for the best of each node." if away else ""
+    return shown, words
+
+
 def _draw_links(
-    drawn: Axes, scenario: Scenario, ratios: Mapping[Link, float], laid: Mapping[int, Place], broken: set[Link]
+    drawn: Axes, scenario: Scenario, ratios: Mapping[Link, float], laid: Mapping[int, Place], broken: set[Link], links: Iterable[Link]
 ) -> None:  # fmt: skip
-    paints = {link: style.PALE if link in broken else _paint(ratios.get(link, 1.0)) for link in scenario.links}
+    paints = {link: style.PALE if link in broken else _paint(ratios.get(link, 1.0)) for link in links}
     shown: dict[str, list[list[Place]]] = {colour: [] for colour in (style.PALE, *(colour for _, colour, _ in style.RATIOS))}
     for (sender, receiver), paint in sorted(paints.items()):
         start, end = laid[sender], laid[receiver]
@@ -256,8 +283,8 @@ def _draw_nodes(
             markeredgecolor=style.PALE if node in down else style.TRANSMITS if node in ranks else style.INK, zorder=3,
         )  # fmt: skip
         ink = style.PALE if node in down else style.ink_on(colour)
-        if len(scenario.name(node)) <= _NAME_INSIDE:
-            drawn.text(x, y, scenario.name(node), color=ink, ha="center", va="center", fontsize=0.45 * size, zorder=4, in_layout=False)
+        if letters := _inside(scenario.name(node), size):
+            drawn.text(x, y, scenario.name(node), color=ink, ha="center", va="center", fontsize=letters, zorder=4, in_layout=False)
     _node_key(drawn, ranks, away, down, set(laid))
 
 
@@ -272,27 +299,31 @@ def _marker(laid: Mapping[int, Place]) -> float:
     return 19.0 if len(laid) <= 36 else 15.0
 
 
-def _draw_names(drawn: Axes, scenario: Scenario, laid: Mapping[int, Place], down: set[int]) -> None:
+def _inside(name: str, size: float) -> float:
+    """The size of the letters of a name that is inside of a node of this size; 0 where they would be too small."""
+    fits = min(0.45 * size, 0.92 * size / max(map_labels.width(name, 1.0), 0.01))
+    return fits if fits >= _LETTERS_INSIDE else 0.0
+
+
+def _draw_names(drawn: Axes, scenario: Scenario, laid: Mapping[int, Place], down: set[int], shown: Iterable[Link]) -> None:
     """Says beside the nodes which of them host, and what is too long to be inside of a node: where it covers least."""
+    size = _marker(laid)
     words = {node: f"host {rank}" + (", no power" if node in down else "") for rank, node in sorted(scenario.hosts.items())}
     for node in sorted(laid):
-        if len(scenario.name(node)) > _NAME_INSIDE:
+        if not _inside(scenario.name(node), size):
             words[node] = scenario.name(node) + (f" ({words[node]})" if node in words else "")
     if not words:
         return
     _lay_out(drawn)
     points = 72.0 / drawn.get_figure().dpi
     at = {node: np.array(drawn.transData.transform(place)) * points for node, place in laid.items()}
-    half = _marker(laid) / 2
-    taken = [(x - half, y - half, x + half, y + half) for x, y in at.values()]
-    spots = _along([(at[one], at[other]) for one, other in scenario.links])
-    for node, text in words.items():
-        wide, tall = 4.4 * len(text) + 4, 10.0
-        left, low = _beside(at[node], half + 2.5, wide, tall, taken, spots)
-        taken.append((left, low, left + wide, low + tall))
-        offset = (left + wide / 2 - at[node][0], low + tall / 2 - at[node][1])
-        drawn.annotate(text, laid[node], offset, textcoords="offset points", fontsize=8, ha="center", va="center", zorder=5,
-                       bbox={"facecolor": style.GROUND, "edgecolor": "none", "pad": 0.6, "alpha": 0.8})  # fmt: skip
+    sizes = {node: (map_labels.width(text, _LETTERS) + 2, 1.25 * _LETTERS) for node, text in words.items()}
+    found = map_labels.placed(sizes, at, size / 2, [(at[one], at[other]) for one, other in shown])
+    for node, label in found.items():
+        offset = (label.left + sizes[node][0] / 2 - at[node][0], label.low + sizes[node][1] / 2 - at[node][1])
+        lead = {"arrowstyle": "-", "color": style.PALE, "linewidth": 0.6, "shrinkA": 0, "shrinkB": size / 2} if label.far else None
+        drawn.annotate(words[node], laid[node], offset, textcoords="offset points", fontsize=_LETTERS, ha="center", va="center", zorder=5,
+                       arrowprops=lead, bbox={"facecolor": style.GROUND, "edgecolor": "none", "pad": 0.6, "alpha": 0.8})  # fmt: skip
 
 
 def _lay_out(drawn: Axes) -> None:
@@ -304,44 +335,9 @@ def _lay_out(drawn: Axes) -> None:
     drawn.apply_aspect()
 
 
-def _beside(
-    at: NDArray[np.float64], away: float, wide: float, tall: float, taken: Sequence[tuple[float, float, float, float]], spots: NDArray[np.float64]
-) -> tuple[float, float]:
-    """The lower left corner of a box of this size next to a node that covers least of what is taken, and then of the lines."""
-    best, least = (float(at[0]), float(at[1])), np.inf
-    for ring in (0.0, 8.0, 16.0):
-        for across, up in _SIDES:
-            gap = away + ring
-            left = at[0] + across * gap + (0 if across > 0 else -wide if across < 0 else -wide / 2)
-            # Half a step up is just above a line that goes to the side.
-            rise = up * gap if abs(up) != 0.5 else 5 * up
-            low = at[1] + rise + (0 if up > 0 else -tall if up < 0 else -tall / 2)
-            box = (left, low, left + wide, low + tall)
-            cost = 1e3 * sum(_common(box, other) for other in taken) + 8.0 * _crossed(box, spots) + ring
-            if cost < least - 1e-9:
-                best, least = (float(left), float(low)), cost
-    return best
-
-
-def _common(one: tuple[float, ...], other: tuple[float, ...]) -> float:
-    """The area that two boxes have in common."""
-    wide = min(one[2], other[2]) - max(one[0], other[0])
-    tall = min(one[3], other[3]) - max(one[1], other[1])
-    return max(0.0, wide) * max(0.0, tall)
-
-
-def _along(lines: Sequence[tuple[NDArray[np.float64], NDArray[np.float64]]]) -> NDArray[np.float64]:
-    """Points along each of the lines: by line, point, and x and y."""
-    ends = np.array(lines, dtype=np.float64).reshape(-1, 2, 1, 2)
-    found: NDArray[np.float64] = ends[:, 0] + np.linspace(0, 1, 60)[:, None] * (ends[:, 1] - ends[:, 0])
-    return found
-
-
-def _crossed(box: tuple[float, ...], spots: NDArray[np.float64]) -> int:
-    """How many of the lines go through a box, by points along them."""
-    x, y = spots[..., 0], spots[..., 1]
-    inside = (x > box[0]) & (x < box[2]) & (y > box[1]) & (y < box[3])
-    return int(inside.any(axis=1).sum())
+def _keep_layout(drawn: Axes) -> None:
+    """Leaves the axes where they are: names that need room at the edge would move all nodes below the other names."""
+    drawn.get_figure().set_layout_engine("none")
 
 
 def _node_key(

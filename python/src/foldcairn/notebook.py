@@ -2,7 +2,6 @@
 
 from __future__ import annotations
 
-import html
 from typing import TYPE_CHECKING
 
 import pandas as pd
@@ -15,9 +14,12 @@ _ROWS = 5
 _CAUTIONS = 3
 
 
-def _table(rows: list[tuple[str, str]]) -> str:
-    cells = "".join(f"<tr><th style='text-align:left'>{html.escape(name)}</th><td>{html.escape(value)}</td></tr>" for name, value in rows)
-    return f"<table>{cells}</table>"
+def _facts(rows: list[tuple[str, str]], remarks: list[str]) -> str:
+    """A table of rows, and remarks below it."""
+    # jinja2 is needed for HTML alone.
+    from . import markup
+
+    return markup.render("facts.html", rows=dict(rows), remarks=remarks)
 
 
 def of_scenario(scenario: Scenario) -> str:
@@ -33,9 +35,7 @@ def of_scenario(scenario: Scenario) -> str:
         ("losses", f"{len(scenario.losses):,}" + (f", drawn by seed {scenario.seed}" if scenario.seed is not None else "")),
     ]
     found = scenario.cautions()
-    words = "".join(f"<li>{html.escape(caution)}</li>" for caution in found[:_CAUTIONS])
-    more = f"<li>and {len(found) - _CAUTIONS} more</li>" if len(found) > _CAUTIONS else ""
-    return _table(rows) + (f"<ul>{words}{more}</ul>" if found else "")
+    return _facts(rows, found[:_CAUTIONS] + [f"and {len(found) - _CAUTIONS} more"] * (len(found) > _CAUTIONS))
 
 
 def workload(scenario: Scenario) -> str:
@@ -60,14 +60,14 @@ def of_report(report: Report) -> str:
 
     scenario = report.scenario
     rows = [
-        ("run", f"{len(scenario.nodes)} nodes, {scenario.seconds:,} s" + ("" if scenario.seed is None else f", seed {scenario.seed}")),
+        ("run", f"{len(scenario.nodes)} nodes, {scenario.seconds:,} s" + ("" if report.origin.seed is None else f", one draw, seed {report.origin.seed}")),
         ("deliveries", f"{len(report.deliveries):,}, and {len(report.drops):,} packets dropped at once"),
     ]
     if isinstance(report, Log):
         rows += _of_log(report)
     elif "duty_cycle" in report.energy:
         rows.append(("duty cycle", f"{100 * report.energy['duty_cycle'].mean():.2f} %, the mean over the nodes"))
-    return _table(rows[:_ROWS])
+    return _facts(rows[:_ROWS], [])
 
 
 def _of_log(log: Log) -> list[tuple[str, str]]:

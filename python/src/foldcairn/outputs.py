@@ -6,6 +6,7 @@ Tested, not proved.
 from __future__ import annotations
 
 import argparse
+import shlex
 
 from . import commands
 from .commands import Commands
@@ -81,7 +82,8 @@ def _pcap(chosen: argparse.Namespace) -> int:
     from . import export
 
     count = export.pcap(commands.log(chosen.file, chosen.seed), chosen.output, start_seconds=chosen.start, end_seconds=chosen.end)
-    print(f"{chosen.output}: {count} packets; read it by tshark -X lua_script:{export.dissector()} -r {chosen.output}")
+    command = shlex.join(["tshark", "-X", f"lua_script:{export.dissector()}", "-r", chosen.output])
+    commands.say(f"{chosen.output}: {count} packets; read it by {command}\n")
     return 0
 
 
@@ -100,5 +102,5 @@ def _trace(chosen: argparse.Namespace) -> int:
     from . import export
 
     count = export.trace(commands.log(chosen.file, chosen.seed), chosen.output, start_seconds=chosen.start, end_seconds=chosen.end)
-    print(f"{chosen.output}: {count} events")
+    commands.say(f"{chosen.output}: {count} events\n")
     return 0

@@ -144,7 +144,8 @@
     if ("xaxis.autorange" in change) show(0, run.seconds);
     else if ("xaxis.range[0]" in change) show(Math.max(0, change["xaxis.range[0]"]), Math.min(run.seconds, change["xaxis.range[1]"]));
   });
-  window.addEventListener("hashchange", start);
+  // The contents of the page are also behind a hash.
+  window.addEventListener("hashchange", () => /^#?$|from=|to=/.test(location.hash) && start());
   matchMedia("(prefers-color-scheme: dark)").addEventListener("change", () => show(...shown));
   document.getElementById("whole").onclick = () => show(0, run.seconds);
   document.getElementById("on").onclick = () => step(1, true);

@@ -28,7 +28,7 @@ import plotly.graph_objects as graph
 import plotly.offline
 from matplotlib.figure import Figure
 
-from . import arguments, files, findings, meanings, notebook, planning, plot, radio, report, style, timing
+from . import arguments, files, findings, happens, markup, meanings, notebook, planning, plot, radio, report, style, timing, workload
 from .packets import Data, Packet, Request
 from .results import Log
 from .rounds import rounds
@@ -37,9 +37,8 @@ from .settings import Settings
 from .timeline import DETAIL_SECONDS
 from .version import version
 
-_FOLDER = Path(__file__).parent
 _HALF = 0.32
-_EVENTS_MOST = 20
+_EVENTS_MOST, _CAUTIONS_MOST = 200, 20
 # Seen on light and on dark ground.
 _OFF = "rgba(127, 140, 160, 0.2)"
 
@@ -53,7 +52,8 @@ def write(log: Log, path: str | os.PathLike[str], **given: Any) -> Path:
     positions           places of the nodes for the map, as {id: (x, y)}
     background, extent  a picture below the map, as in `plot.topology`
     receivers           for whom packets are meant, in the forms of `foldcairn.receivers`; as the scenario says without it
-    battery             the words of `planning.battery_life`, as {"capacity_mah": 2500, "receive_ma": 20}
+    battery             the words of `planning.battery_life`, as {"capacity_mah": 2500, "receive_ma": 20, "mains": [1], "target_days": 730}
+    deadline            a time in seconds: the summary says which part is delivered within it, and the picture of latencies marks it
 
     The same run and words give the same bytes. A link to the page may end with `#from=S&to=S`, two times in seconds, and the page
     then begins there. Raises `OSError` where a file can't be read or written, and `ValueError` where a node has no place, or a
@@ -71,16 +71,6 @@ def text(log: Log, **given: Any) -> str:
 def of_settings(log: Log, settings: Settings) -> str:
     """The text of the page of these settings."""
     scenario = log.scenario.text(warn=False)
-    parts = [
-        _head(log, settings),
-        _findings(log, settings),
-        _numbers(log, settings),
-        _workload(log),
-        _timeline(log),
-        _pictures(log, settings),
-        _tables(log, settings),
-        _again(log, scenario),
-    ]
     packed = {
         "plotly-script": _script(),
         "figure": _packed(overview(log).to_json()),
@@ -88,16 +78,25 @@ def of_settings(log: Log, settings: Settings) -> str:
         "scenario": _packed(scenario),
         "settings": _packed(settings.text()),
     }
-    scripts = [f'<script type="application/gzip" id="{name}">{value}</script>' for name, value in packed.items()]
-    title = html.escape(settings.title)
-    head = f'<meta charset="utf-8"><meta name="viewport" content="width=device-width"><title>{title}</title>'
-    css, code = ((_FOLDER / name).read_text(encoding="utf-8") for name in ("page.css", "page.js"))
-    body = "\n".join([*parts, *scripts, f"<script>\n{code}</script>"])
-    return f'<!DOCTYPE html>\n<html lang="en"><head>{head}<style>\n{css}</style></head>\n<body>\n{body}\n</body></html>\n'
+    return markup.page(
+        "run.html", title=settings.title, site=settings.site, plan=settings.plan, notes=markup.paragraphs(settings.notes), about=about(log),
+        findings=findings.of(log, receivers=settings.whom(), battery=settings.battery, deadline=settings.deadline),
+        cautions=_cautions(log), numbers=_numbers(log, settings),
+        workload=notebook.workload(log.scenario), streams=markup.table(workload.table(log.scenario)), events=_events(log.scenario),
+        detail=f"{DETAIL_SECONDS:g}", height=_height(log.scenario), timeline=markup.picture("The radios in the whole run", lambda: plot.timeline(log)),
+        pictures=_pictures(log, settings), tables=_tables(log, settings), seed=log.scenario.seed,
+        draw=findings.draw(log.scenario.seed), undrawn=log.scenario.is_to_be_drawn,
+        digest=hashlib.sha256(_bytes(scenario)).hexdigest(), program=log.origin.program, version=version(), packed=packed, code=markup.own("page.js"),
+    )  # fmt: skip
+
+
+def _bytes(text: str) -> bytes:
+    """The bytes of a text, in which a name may have bytes that are no text."""
+    return text.encode("utf-8", "surrogateescape")
 
 
 def _packed(value: str) -> str:
-    return base64.b64encode(gzip.compress(value.encode(), 6, mtime=0)).decode()
+    return base64.b64encode(gzip.compress(_bytes(value), 6, mtime=0)).decode()
 
 
 @cache
@@ -123,30 +122,16 @@ def about_network(scenario: Scenario) -> str:
     )
 
 
-def _head(log: Log, settings: Settings) -> str:
-    where = " · ".join(f"{word}: {html.escape(name)}" for word, name in (("Site", settings.site), ("Plan", settings.plan)) if name)
-    notes = "".join(f"<p>{html.escape(part.strip())}</p>" for part in settings.notes.split("\n\n") if part.strip())
-    return (
-        f"<h1>{html.escape(settings.title)}</h1>" + (f'<p class="where">{where}</p>' if where else "") + f"<p>{html.escape(about(log))}</p>"
-        + (f'<div class="notes">{notes}</div>' if notes else "")
-    )  # fmt: skip
+def _cautions(log: Log) -> list[str]:
+    """What of the run is hardly as it was meant, the first of it."""
+    told = planning.cautions(log)
+    return told[:_CAUTIONS_MOST] + [f"and {len(told) - _CAUTIONS_MOST} more, which `planning.cautions` has"] * (len(told) > _CAUTIONS_MOST)
 
 
-def _findings(log: Log, settings: Settings) -> str:
-    lines = "".join(f"<li>{html.escape(line)}</li>" for line in findings.of(log, receivers=settings.whom(), battery=settings.battery))
-    return f'<h2>Summary</h2><ol class="findings">{lines}</ol>'
-
-
-def _workload(log: Log) -> str:
-    """What is put, and what happens to nodes."""
-    table = report.workload(log.scenario).to_html(index=False, border=0, na_rep="–", float_format=lambda number: f"{number:.1f}")
-    events = report.events(log.scenario)
-    shown = "".join(f"<li>{html.escape(line)}</li>" for line in events[:_EVENTS_MOST])
-    more = f"<li>and {len(events) - _EVENTS_MOST} more</li>" if len(events) > _EVENTS_MOST else ""
-    return (
-        f"<h2>The workload</h2><p>{html.escape(notebook.workload(log.scenario))}.</p>{table}"
-        + (f"<h3>What happens</h3><ul>{shown}{more}</ul>" if events else "")
-    )  # fmt: skip
+def _events(scenario: Scenario) -> list[str]:
+    """What happens after the start."""
+    told = happens.sentences(scenario)
+    return told[:_EVENTS_MOST] + [f"and {len(told) - _EVENTS_MOST} more, which the scenario has"] * (len(told) > _EVENTS_MOST)
 
 
 # The main numbers, with their unit and how they are shown.
@@ -164,86 +149,38 @@ _NUMBERS: dict[str, tuple[str, Callable[[float], str]]] = {
 }
 
 
-def _numbers(log: Log, settings: Settings) -> str:
+def _numbers(log: Log, settings: Settings) -> list[dict[str, str]]:
+    """The main numbers, each with its `value` and `words`."""
     summary = planning.summary(log, receivers=settings.whom())
-    whom = html.escape(findings.whom(log.scenario, settings.whom()))
-    cells = [
-        f"<div><b>{'none' if np.isnan(summary[name]) else shown(summary[name])}</b>{words.format(whom=whom)}</div>"
+    whom = findings.whom(log.scenario, settings.whom())
+    return [
+        {"value": "none" if np.isnan(summary[name]) else shown(summary[name]), "words": words.format(whom=whom)}
         for name, (words, shown) in _NUMBERS.items()
     ]
-    return f'<div class="numbers">{"".join(cells)}</div>'
 
 
-def _timeline(log: Log) -> str:
-    buttons = [("whole", "whole run"), ("back", "◀ round"), ("on", "round ▶"), ("slot-back", "◀ slot"), ("slot-on", "slot ▶")]
-    height = 130 + max(6, len(log.scenario.nodes)) * (26 if len(log.scenario.nodes) <= 30 else 16)
-    return (
-        "<h2>The radios</h2><p class='screen'>Drag over a part of the timeline to zoom into it; a double click shows the whole run. Below "
-        f"{DETAIL_SECONDS:g} s slots and what was transmitted and received in them are shown, and the steps of a flood where there "
-        "is room. The address of the page keeps the window.</p>"
-        '<p class="buttons">' + "".join(f'<button id="{name}">{words}</button>' for name, words in buttons) + "</p>"
-        f'<div id="timeline" style="height:{height}px"></div><p id="message"></p>'
-        # A printer gets the whole run as a picture.
-        f'<div class="printed">{picture("The radios in the whole run", lambda: plot.timeline(log))}</div>'
-    )
+def _height(scenario: Scenario) -> int:
+    """The height of the timeline in pixels."""
+    return 130 + max(6, len(scenario.nodes)) * (26 if len(scenario.nodes) <= 30 else 16)
 
 
-def _pictures(log: Log, settings: Settings) -> str:
+def _pictures(log: Log, settings: Settings) -> list[markup.Picture]:
     pairs = planning.delivery_ratio(log, "pair", receivers=settings.whom())
-    drawn = [
+    drawn: list[tuple[str, Callable[[], Figure]]] = [
         ("The network", lambda: plot.topology(log.scenario, positions=settings.places(), background=settings.picture(), extent=settings.extent)),
         ("Delivery ratio of each stream at each node", lambda: plot.delivery(pairs)),
-        ("Latencies", lambda: plot.latency(planning.latencies(log, receivers=settings.whom()))),
+        ("Latencies", lambda: plot.latency(planning.latencies(log, receivers=settings.whom()), deadline_seconds=settings.deadline)),
         ("Radio time by purpose", lambda: plot.energy(planning.radio_time(log))),
         ("Outages", lambda: plot.outages(planning.outages(log, "stream"))),
     ]
-    return "".join(f'<section class="figure"><h2>{name}</h2>{picture(name, draw)}</section>' for name, draw in drawn)
+    return [markup.picture(title, draw) for title, draw in drawn]
 
 
-def picture(name: str, draw: Callable[[], Figure]) -> str:
-    """A picture as a part of a page, or why there is none."""
-    try:
-        figure = draw()
-    except ValueError as error:
-        # A run may have no deliveries, or no change of hosts.
-        return f"<p>{html.escape(str(error))}</p>"
-    svg = style.rendered(figure, "svg")
-    return f'<img alt="{name}" src="data:image/svg+xml;base64,{base64.b64encode(svg).decode()}">'
-
-
-def _tables(log: Log, settings: Settings) -> str:
+def _tables(log: Log, settings: Settings) -> list[markup.Section]:
+    """The tables with what their columns mean, by their titles."""
     tables = planning.tables(log, receivers=settings.whom(), battery=settings.battery)
     titles = report.titles(log.scenario, settings.whom(), settings.battery)
-    pieces = [_table(name, title, tables[name]) for name, title in titles.items()]
-    return '<h2 class="screen">Tables</h2><p class="screen">A click on a title shows its table.</p>' + "".join(pieces)
-
-
-def _table(name: str, title: str, table: pd.DataFrame) -> str:
-    """A table that is shown by a click on its title, and always in print, with what its columns mean."""
-    told: dict[str, list[str]] = {}
-    for column, meaning in meanings.of_table(name, table).items():
-        told.setdefault(meaning, []).append(column)
-    rows = "".join(f"<dt>{html.escape(', '.join(columns))}</dt><dd>{html.escape(meaning)}</dd>" for meaning, columns in told.items())
-    shown = table.to_html(index=False, border=0, na_rep="–", float_format=lambda number: f"{number:.3f}") if len(table) else "<p>none</p>"
-    return (
-        f'<section class="table"><input type="checkbox" id="show-{name}"><label for="show-{name}">{html.escape(title)}</label>'
-        f'<div class="shown">{shown}<dl>{rows}</dl></div></section>'
-    )
-
-
-def _again(log: Log, scenario: str) -> str:
-    digest = hashlib.sha256(scenario.encode()).hexdigest()
-    seed = f" drawn by the seed {log.scenario.seed}" if log.scenario.seed is not None else ""
-    made = f", the program's <code>{log.origin.program}</code>" if log.origin.program else ""
-    return (
-        '<h2>How to make this page again</h2><p><a id="save" download="run.scenario" href="#">Save the scenario</a>, with all its '
-        f'losses{seed}, and <a id="save-settings" download="run.page.json" href="#">the settings of this page</a>, with the ratios, the places '
-        f"and the notes. The SHA-256 of the scenario is <code>{digest}</code>{made}. A run depends on nothing but its text, so it comes "
-        "out the same on any machine, and so does this page with the same versions of the package and of the libraries that it "
-        "uses:</p><pre>python3 -m foldcairn report run.scenario --page run.page.json --html report.html</pre>"
-        "<p>The run is by the program foldcairn, which is proved to follow its rules; this page and its numbers are by the Python "
-        f"package {html.escape(version())}, which is tested, not proved.</p>"
-    )
+    return [markup.section(name, title, tables[name], meanings.of_table(name, tables[name])) for name, title in titles.items()]
 
 
 # The timeline: an overview by plotly, and the data of what page.js draws in short windows.
@@ -252,7 +189,7 @@ def _again(log: Log, scenario: str) -> str:
 def overview(log: Log) -> graph.Figure:
     """The whole run as a figure of plotly: rounds and searches by the ranks' channels, openings, and times without power."""
     row = {node: place for place, node in enumerate(sorted(log.scenario.nodes))}
-    name = partial(findings.node, log.scenario)
+    name = partial(_name, log.scenario)
     figure = graph.Figure()
     pauses, spells = timing.pauses(log), timing.spells(log)
     _add(figure, pauses, row, "no power", _OFF, 0.5, [f"{name(one.node)} has no power" for one in pauses.itertuples()])
@@ -277,6 +214,16 @@ def overview(log: Log) -> graph.Figure:
                "fixedrange": True, "showgrid": False},
     )  # fmt: skip
     return figure
+
+
+def _name(scenario: Scenario, node: int) -> str:
+    """A node in a text of plotly."""
+    return _escaped(findings.node(scenario, node))
+
+
+def _escaped(text: str) -> str:
+    """A text that plotly shows as it is: it reads tags, as of bold letters and links."""
+    return html.escape(text, quote=False)
 
 
 def _add(
@@ -333,14 +280,17 @@ def data(log: Log) -> dict[str, Any]:
         "seconds": log.scenario.seconds,
         "detail": DETAIL_SECONDS,
         "nodes": nodes,
-        "names": [findings.node(log.scenario, node) for node in nodes],
+        "names": [_name(log.scenario, node) for node in nodes],
         "colours": {"listens": style.LISTENS, "receives": style.RECEIVES, "transmits": style.TRANSMITS},
-        "slots": {name: slots[name].tolist() for name in ("start_ticks", "end_ticks", "frame", "rank", "slot", "name")},
+        "slots": {
+            **{name: slots[name].tolist() for name in ("start_ticks", "end_ticks", "frame", "rank", "slot")},
+            "name": [_escaped(name) for name in slots["name"]],
+        },
         "purposes": list(radio.PURPOSES),
         "tunings": {**bars(windows), "purpose": windows["purpose"].cat.codes.tolist()},
         "transmissions": on_air(log.transmissions),
         "receptions": {**on_air(log.receptions), "sender": log.receptions["sender"].map(row).tolist()},
-        "packets": [_named(log, packet) for packet in log.packets["decoded"]],
+        "packets": [_escaped(_named(log, packet)) for packet in log.packets["decoded"]],
         "steps": log.packets["step"].tolist(),
     }
 

@@ -44,6 +44,7 @@ is proved.
 from __future__ import annotations
 
 import math
+from typing import Any
 
 import pandas as pd
 
@@ -84,9 +85,9 @@ bounds = answers(_bounds.bounds)
 
 
 @answer
-def tables(log: Log, *, receivers: Receivers = None, battery: dict[str, float] | None = None) -> dict[str, pd.DataFrame]:
+def tables(log: Log, *, receivers: Receivers = None, battery: dict[str, Any] | None = None) -> dict[str, pd.DataFrame]:
     """All answers of a run, by the names that the files of `python3 -m foldcairn report --csv` have. `receivers` is as in
-    `delivery_ratio`, and `battery` has the words of `battery_life`, as `{"capacity_mah": 2500, "receive_ma": 20}`."""
+    `delivery_ratio`, and `battery` has the words of `battery_life`, as `{"capacity_mah": 2500, "mains": [1]}`."""
     return {
         "delivery-by-stream": delivery_ratio(log, receivers=receivers),
         "delivery-by-node": delivery_ratio(log, "node", receivers=receivers),

@@ -9,15 +9,14 @@ from __future__ import annotations
 import argparse
 import contextlib
 import json
-import sys
-from collections.abc import Iterator
+from collections.abc import Iterable, Iterator
 from concurrent.futures import Executor, ProcessPoolExecutor
 from pathlib import Path
 from typing import Any
 
 import pandas as pd
 
-from . import commands, executors, planning, program, report
+from . import commands, executors, findings, planning, program, report
 from .arguments import ArgumentError
 from .commands import Commands
 from .scenario import Scenario
@@ -52,12 +51,15 @@ def _add(listed: Commands, name: str, run: Any, about: str, files: str, seeds: s
     return parser
 
 
-def _write(table: pd.DataFrame, as_json: bool) -> int:
-    """Writes a table on standard output."""
-    if as_json:
-        sys.stdout.write(json.dumps(json.loads(table.to_json(orient="records", double_precision=15)), indent=1) + "\n")
+def _write(table: pd.DataFrame, chosen: argparse.Namespace, networks: Iterable[Scenario]) -> int:
+    """Writes the table of these networks on standard output, as text below the seed where it is of one draw."""
+    seeds = commands.seeds(chosen.seeds)
+    if len(seeds) == 1 and not chosen.json and any(network.is_to_be_drawn for network in networks):
+        commands.say(f"{findings.draw(seeds[0])}\n\n".capitalize())
+    if chosen.json:
+        commands.say(json.dumps(json.loads(table.to_json(orient="records", double_precision=15)), indent=1) + "\n")
     else:
-        sys.stdout.write(table.to_string(index=False, float_format=lambda number: f"{number:.3f}", na_rep="-") + "\n")
+        commands.say(table.to_string(index=False, float_format=lambda number: f"{number:.3f}", na_rep="-") + "\n")
     return 0
 
 
@@ -87,9 +89,9 @@ def _sample(chosen: argparse.Namespace) -> int:
     if chosen.html:
         found.write(chosen.html, title=Path(chosen.file).stem, **battery)
     elif chosen.json:
-        sys.stdout.write(report.as_json(found.tables(**battery), program.versions()))
+        commands.say(report.as_json(found.tables(**battery), program.versions()))
     else:
-        sys.stdout.write("\n".join(found.remarks()) + "\n\n" + report.shown(found.tables(**battery), sample_page.titles(found, battery)))
+        commands.say("\n".join(found.remarks()) + "\n\n" + report.shown(found.tables(**battery), sample_page.titles(found, battery)))
     return 0
 
 
@@ -116,7 +118,7 @@ def _compare(chosen: argparse.Namespace) -> int:
             notes=Path(chosen.notes).read_text(encoding="utf-8") if chosen.notes else "", positions=positions,
             receivers=commands.receivers(chosen.receivers), executor=pool, results=chosen.results, by=chosen.by,
         )  # fmt: skip
-    return _write(told.table, chosen.json)
+    return _write(told.table, chosen, plans.values())
 
 
 def _plans(
@@ -158,7 +160,7 @@ def _capacity(chosen: argparse.Namespace) -> int:
             ratio=chosen.ratio, start_seconds=chosen.start, seeds=commands.seeds(chosen.seeds),
             receivers=commands.receivers(chosen.receivers), executor=pool, results=chosen.results,
         )  # fmt: skip
-    return _write(table, chosen.json)
+    return _write(table, chosen, [network])
 
 
 def _add_importance(listed: Commands) -> None:
@@ -178,7 +180,7 @@ def _importance(chosen: argparse.Namespace) -> int:
             network, chosen.of, candidates=_cuts(chosen.of, chosen.only), seeds=commands.seeds(chosen.seeds),
             receivers=commands.receivers(chosen.receivers), executor=pool, results=chosen.results,
         )  # fmt: skip
-    return _write(table, chosen.json)
+    return _write(table, chosen, [network])
 
 
 def _cuts(what: str, words: str | None) -> list[Any] | None:

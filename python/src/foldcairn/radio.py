@@ -3,6 +3,8 @@ place. Tested, not proved."""
 
 from __future__ import annotations
 
+from collections.abc import Collection, Iterable
+
 import numpy as np
 import pandas as pd
 
@@ -11,6 +13,7 @@ from .answers import answer, report_answer
 from .arguments import ArgumentError
 from .results import TICKS_A_SECOND, Log, Report
 from .rounds import GUARD_TICKS
+from .scenario import Scenario
 
 PURPOSES = ("opening", "data", "empty data", "contention", "closing", "searching")
 # By how much a node's clock may be off within a window, as a part of its length.
@@ -194,6 +197,8 @@ def battery_life(
     transmit_ma: float = 17.4,
     receive_ma: float = 18.8,
     sleep_ma: float = 0.0,
+    mains: Iterable[int | str] = (),
+    target_days: float | None = None,
     start_seconds: float = 0.0,
     end_seconds: float | None = None,
 ) -> pd.DataFrame:
@@ -201,24 +206,36 @@ def battery_life(
 
     The currents are in mA: while the radio transmits, while it is on and does not, and while it is off; `sleep_ma` is the place
     for all else that the node draws. The defaults are the datasheet's of the CC2420 radio, and nothing else. The capacity is in
-    mAh, and nothing is taken off for age or cold.
+    mAh, and nothing is taken off for age or cold. `mains` are the nodes without a battery, by their ids or names.
 
     mean_ma              the mean current while the node had power
-    days                 the battery's life at this current
+    days                 the battery's life at this current; missing for a node on mains
     days_in_rounds       its life if the node never searched: its searching is taken as time with the radio off. Transmissions
                          of a searching node (relays of the first schedule) count as made in rounds
+    reaches_target       where `target_days` is given: "yes" or "no", by `days`, and "mains" for a node on mains
     Of a report without a log it is of the whole run, as `duty_cycle` has it.
-    Raises `ArgumentError` where a current or the capacity is below 0, or the time is no part of the run.
+    Raises `ArgumentError` where a current, the capacity or the target is below 0, the time is no part of the run, or there is no such node.
     """
-    table = duty_cycle(log, start_seconds=start_seconds, end_seconds=end_seconds)
-    lives = lives_of(table, capacity_mah=capacity_mah, transmit_ma=transmit_ma, receive_ma=receive_ma, sleep_ma=sleep_ma)
+    table, without = duty_cycle(log, start_seconds=start_seconds, end_seconds=end_seconds), on_mains(log.scenario, mains)
+    lives = lives_of(table, capacity_mah=capacity_mah, transmit_ma=transmit_ma, receive_ma=receive_ma, sleep_ma=sleep_ma, mains=without)
+    if target_days is not None:
+        reached = np.where(lives["days"] >= arguments.real("target_days", target_days, 0), "yes", "no")
+        lives["reaches_target"] = np.where(table["node"].isin(without), "mains", reached)
     return pd.concat([table[["node"]], lives], axis=1)
 
 
+def on_mains(scenario: Scenario, mains: Iterable[int | str]) -> frozenset[int]:
+    """The ids of the nodes without a battery, which are given by their ids or names, or as a single one. Raises `ArgumentError` where there
+    is no such node."""
+    given = [mains] if isinstance(mains, (int, str)) else mains
+    return frozenset(scenario.id(one) for one in given)
+
+
 def lives_of(
-    table: pd.DataFrame, *, capacity_mah: float = 2600.0, transmit_ma: float = 17.4, receive_ma: float = 18.8, sleep_ma: float = 0.0
-) -> pd.DataFrame:
-    """What `battery_life` says of each row of a table with `powered_seconds`, `on_seconds`, `transmit_seconds` and
+    table: pd.DataFrame, *, capacity_mah: float = 2600.0, transmit_ma: float = 17.4, receive_ma: float = 18.8, sleep_ma: float = 0.0,
+    mains: Collection[int] = (),
+) -> pd.DataFrame:  # fmt: skip
+    """What `battery_life` says of each row of a table with `node`, `powered_seconds`, `on_seconds`, `transmit_seconds` and
     `searching_seconds`. Raises `ArgumentError` where a current or the capacity is below 0."""
     capacity_mah = arguments.real("capacity_mah", capacity_mah, 0)
     transmit_ma, receive_ma = arguments.real("transmit_ma", transmit_ma, 0), arguments.real("receive_ma", receive_ma, 0)
@@ -232,7 +249,7 @@ def lives_of(
         return charge / powered
 
     def days(current: pd.Series) -> pd.Series:
-        return capacity_mah / current.where(current > 0) / 24
+        return capacity_mah / current.where((current > 0) & ~table["node"].isin(mains)) / 24
 
     mean = mean_current(table["on_seconds"])
     in_rounds = mean_current(table["on_seconds"] - table["searching_seconds"])

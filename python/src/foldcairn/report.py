@@ -9,7 +9,7 @@ from __future__ import annotations
 import argparse
 import json
 import os
-import sys
+import re
 from collections.abc import Mapping
 from pathlib import Path
 from typing import TYPE_CHECKING, Any
@@ -17,11 +17,12 @@ from typing import TYPE_CHECKING, Any
 import pandas as pd
 
 from . import arguments, commands, files, findings, planning, program, results
+from .arguments import ArgumentError
 from .commands import Commands
-from .events import Off, On, Put, Stream
 from .receivers import Receivers
 from .scenario import Scenario
 from .settings import Settings
+from .visible import csv
 
 if TYPE_CHECKING:
     from .compare import Comparison
@@ -60,51 +61,16 @@ def compare(plans: Mapping[str, Scenario], path: str | os.PathLike[str] | None =
     return comparing.compare(plans, path, **{name: arguments.settled(given[name]) if name in ("seeds", "receivers") else given[name] for name in given})
 
 
-def titles(scenario: Scenario, receivers: Receivers, battery: dict[str, float]) -> dict[str, str]:
-    """The titles of the tables that are shown, with the receivers and the battery that are meant."""
+def titles(scenario: Scenario, receivers: Receivers, battery: dict[str, Any]) -> dict[str, str]:
+    """The titles of the tables that are shown, with the receivers and the battery that are meant, and the seed of the losses."""
     whom = findings.whom(scenario, receivers)
     more = {
         "delivery-by-stream": f"{SHOWN['delivery-by-stream']}, at {whom}",
         "latency-by-stream": f"{SHOWN['latency-by-stream']}, at {whom}",
-        "battery-life": f"{SHOWN['battery-life']} ({findings.battery_words(battery)})",
+        "battery-life": f"{SHOWN['battery-life']} ({findings.battery_words(scenario, battery)})",
     }
-    return {**SHOWN, **more}
-
-
-def workload(scenario: Scenario) -> pd.DataFrame:
-    """What is asked for and put: a row for all streams that are alike, with how many these are, the interval that they ask for in
-    seconds, how many packets each gets, how many seconds lie between two of them (the mean), their bytes, and the nodes."""
-    frames: dict[tuple[int, int], list[int]] = {}
-    sizes: dict[tuple[int, int], set[int]] = {}
-    intervals = {(event.node, event.stream): event.interval for event in scenario.script if isinstance(event, Stream)}
-    for event in scenario.script:
-        if isinstance(event, Put) and (event.payload or (event.node, event.stream) not in scenario.keep_alive):
-            frames.setdefault((event.node, event.stream), []).append(event.frame)
-            sizes.setdefault((event.node, event.stream), set()).add(len(event.payload))
-    alike: dict[tuple[Any, ...], list[int]] = {}
-    for key in sorted(intervals.keys() | frames.keys()):
-        size = sorted(sizes.get(key, ()))
-        shown = "–" if not size else str(size[0]) if len(size) == 1 else f"{size[0]} to {size[-1]}"
-        alike.setdefault((intervals.get(key, 0), len(frames.get(key, ())), shown, key in scenario.keep_alive), []).append(key[0])
-    rows = [
-        (len(nodes), interval, count, scenario.seconds / count if count else float("nan"), size, "yes" if kept else "no",
-         findings.nodes(scenario, nodes))
-        for (interval, count, size, kept), nodes in sorted(alike.items(), key=lambda item: -len(item[1]))
-    ]  # fmt: skip
-    names = ["streams", "interval asked (s)", "packets each", "seconds a packet", "bytes", "kept alive", "nodes"]
-    return pd.DataFrame(rows, columns=names)
-
-
-def events(scenario: Scenario) -> list[str]:
-    """What happens to the power of nodes after the start, a sentence for each time."""
-    happens: dict[tuple[int, str], list[int]] = {}
-    for event in sorted(scenario.script, key=lambda event: event.frame):
-        if isinstance(event, (On, Off)) and event.frame > 0:
-            happens.setdefault((event.frame, "off" if isinstance(event, Off) else "on"), []).append(event.node)
-    return [
-        f"At {frame * scenario.frame_seconds:,} s {findings.nodes(scenario, nodes)} {'is' if len(nodes) == 1 else 'are'} switched {word}."
-        for (frame, word), nodes in happens.items()
-    ]
+    draw = findings.draw(scenario.seed)
+    return {name: title + (f" ({draw})" if draw else "") for name, title in {**SHOWN, **more}.items()}
 
 
 def add_command(listed: Commands) -> None:
@@ -123,14 +89,17 @@ def add_command(listed: Commands) -> None:
         "--html", metavar="FILE", help="write one HTML file instead, with a timeline to zoom, pictures and the tables; it stands alone"
     )
     parser.add_argument("--json", action="store_true", help="write all tables as JSON, with the versions of package and program")
+    commands.add_ratios(parser, "losses are drawn by it, once; without it nothing is lost but what the text says")
+    parser.add_argument("--seed", type=int, metavar="N", help="the seed to draw losses by, a whole number (1 without it); `sample` has many seeds")
     commands.add_receivers(parser)
     commands.add_battery(parser)
+    parser.add_argument("--target-days", type=float, metavar="DAYS", help="how long batteries have to last: it is said which of them do")
     page = parser.add_argument_group("the page of --html")
     page.add_argument("--title", default="", help="the title of the page; the name of the scenario without it")
     page.add_argument("--site", default="", help="the name of the site, below the title")
     page.add_argument("--plan", default="", help="the name of the plan, below the title")
+    page.add_argument("--deadline", type=float, metavar="S", help="say which part is delivered within so many seconds, and mark it")
     page.add_argument("--notes", metavar="FILE", help="a text of your own, which stands at the top")
-    commands.add_ratios(page, "for the map alone")
     commands.add_places(page)
     page.add_argument("--background", metavar="PNG", help="a picture below the map; it needs --places")
     page.add_argument("--extent", metavar="L,R,B,T", help="where its left, right, lower and upper edges are, in the units of --places")
@@ -138,9 +107,9 @@ def add_command(listed: Commands) -> None:
 
 
 def main(chosen: argparse.Namespace) -> int:
-    """Writes the report; gives the exit status 0. Raises what `results.log` raises, and `OSError`."""
-    log = results.log(commands.read(chosen.file))
-    settings = _settings(log, chosen)
+    """Writes the report; gives the exit status 0. Raises what `results.log` raises, `commands.Failed` where there are too many losses, and
+    `OSError`."""
+    log, settings = _run(chosen)
     if chosen.html:
         from . import page
 
@@ -151,27 +120,55 @@ def main(chosen: argparse.Namespace) -> int:
     if chosen.csv:
         write(answers, Path(chosen.csv))
     if chosen.json:
-        sys.stdout.write(as_json(answers, program.versions()))
+        commands.say(as_json(answers, program.versions(), log.scenario.seed))
     elif not chosen.csv:
-        sys.stdout.write(shown(answers, titles(log.scenario, settings.whom(), settings.battery)))
+        commands.say(shown(answers, titles(log.scenario, settings.whom(), settings.battery)))
     return 0
 
 
-def _settings(log: results.Log, chosen: argparse.Namespace) -> Settings:
-    """The settings that the words of the command give."""
+def _run(chosen: argparse.Namespace) -> tuple[results.Log, Settings]:
+    """The run of the file, with losses drawn by its ratios, and the settings that the words of the command give."""
+    text = commands.read(chosen.file)
     if chosen.page:
-        settings = Settings.read(Path(chosen.page).read_text(encoding="utf-8"))
+        settings, log = Settings.read(Path(chosen.page).read_text(encoding="utf-8")), results.log(text)
         settings.give(log.scenario)
-        return settings
+        return log, settings
+    if chosen.ratios is None and chosen.seed is None and not re.search(rb"^ratios\b", text, re.MULTILINE):
+        # The program says what is wrong with a text by the lines of it.
+        log = results.log(text)
+        return log, _settings(log.scenario, commands.places(log.scenario, chosen.places), chosen)
+    network = Scenario.read(text)
     # First of all, since a table of ratios may have the names that this one gives.
-    positions = commands.places(log.scenario, chosen.places)
-    commands.set_ratios(log.scenario, chosen.ratios)
+    positions = commands.places(network, chosen.places)
+    log = results.log(_drawn(network, chosen), warn=False)
+    return log, _settings(log.scenario, positions, chosen)
+
+
+def _drawn(network: Scenario, chosen: argparse.Namespace) -> Scenario:
+    """The network with losses that are drawn once. Raises `ArgumentError` where its losses are drawn already, or it has no ratios."""
+    from . import losses
+
+    if network.seed is not None:
+        raise ArgumentError(f"the losses of {chosen.file} are drawn already, by seed {network.seed}: leave `--ratios` and `--seed` out")
+    commands.set_ratios(network, chosen.ratios)
+    if not network.is_to_be_drawn:
+        if chosen.seed is None:
+            return network
+        raise ArgumentError(f"{chosen.file} has no reception ratios, so there is nothing to draw by `--seed`: name them by `--ratios`")
+    try:
+        return losses.draw(network, 1 if chosen.seed is None else chosen.seed, progress=True)
+    except losses.TooManyLosses as error:
+        raise commands.Failed(str(error)) from error
+
+
+def _settings(scenario: Scenario, positions: dict[int, tuple[float, float]] | None, chosen: argparse.Namespace) -> Settings:
+    """The settings that the words of the command give."""
     return Settings.of(
-        log.scenario, title=chosen.title or Path(chosen.file).stem, site=chosen.site, plan=chosen.plan,
+        scenario, title=chosen.title or Path(chosen.file).stem, site=chosen.site, plan=chosen.plan,
         notes=Path(chosen.notes).read_text(encoding="utf-8") if chosen.notes else "",
         positions=positions, receivers=commands.receivers(chosen.receivers),
         battery=commands.battery(chosen), background=chosen.background,
-        extent=commands.extent(chosen.extent),
+        extent=commands.extent(chosen.extent), deadline=chosen.deadline,
     )  # fmt: skip
 
 
@@ -186,13 +183,15 @@ def shown(tables: dict[str, pd.DataFrame], titles: Mapping[str, str] = SHOWN) ->
 
 
 def write(tables: dict[str, pd.DataFrame], folder: Path) -> None:
-    """A file NAME.csv for each table in this folder, which is made if it is not there; files of these names are replaced."""
+    """A file NAME.csv for each table in this folder, which is made if it is not there; files of these names are replaced. Texts are as
+    `visible.csv` has them."""
     folder.mkdir(parents=True, exist_ok=True)
     for name, table in tables.items():
-        files.write(folder / f"{name}.csv", table.to_csv(index=False).encode())
+        files.write(folder / f"{name}.csv", csv(table).encode())
 
 
-def as_json(tables: dict[str, pd.DataFrame], versions: dict[str, str]) -> str:
-    """The tables as one JSON object: `versions`, and for each table a list with an object a row. What is missing is null."""
+def as_json(tables: dict[str, pd.DataFrame], versions: dict[str, str], seed: int | None = None) -> str:
+    """The tables as one JSON object: `versions`, the `seed` of one draw, and for each table a list with an object a row. What is missing is
+    null."""
     rows = {name: json.loads(table.to_json(orient="records", double_precision=15)) for name, table in tables.items()}
-    return json.dumps({"versions": versions, **rows}, indent=1) + "\n"
+    return json.dumps({"versions": versions, **({} if seed is None else {"seed": seed}), **rows}, indent=1) + "\n"

@@ -87,7 +87,7 @@ class Sample:
             f"{row['source']} has {row['packets']:,} in all seeds together{more}: take {-(-needed // max(1, row['packets']))} times as many seeds.",
         ]
 
-    def write(self, path: str | os.PathLike[str], *, title: str = "How likely it is", **battery: float) -> Path:
+    def write(self, path: str | os.PathLike[str], *, title: str = "How likely it is", **battery: Any) -> Path:
         """Writes a page with a map, all tables and where they come from into an HTML file that stands alone, and gives its path.
         `battery` has the words of `battery_life`."""
         from . import sample_page
@@ -99,7 +99,7 @@ class Sample:
         """A row for each seed (see the class)."""
         return self._runs({})
 
-    def network(self, **battery: float) -> pd.DataFrame:
+    def network(self, **battery: Any) -> pd.DataFrame:
         """The numbers of the whole network:
 
         ratio_of_put           the part, 0 to 1, of what was put that was delivered, of pairs of a packet and a receiver that it is meant for
@@ -172,17 +172,18 @@ class Sample:
         arguments.one_of("by", by, ("node", "all"))
         return self._told(self._by_node(by, {name: self._spent[name] for name in ("scanned_frames", "searching_seconds")}))
 
-    def battery_life(self, by: str = "node", **battery: float) -> pd.DataFrame:
+    def battery_life(self, by: str = "node", **battery: Any) -> pd.DataFrame:
         """How long a battery lasts if all its time is as this run was: `days`, and `days_in_rounds` if its node never searched. `by` is
-        "node", or "all" for the shortest of all nodes. `battery` has the words of `planning.battery_life`, as capacity_mah=2500. Raises
-        `ArgumentError` where `by` is another word, or a current or the capacity is below 0."""
+        "node", or "all" for the shortest of all nodes. `battery` has the words of `planning.battery_life`, as capacity_mah=2500, but for
+        those of a time and the target; a node on `mains` has no life. Raises `ArgumentError` where `by` is another word, or a current or
+        the capacity is below 0."""
         arguments.one_of("by", by, ("node", "all"))
         lives = self._lives(battery)
         if by == "all":
             lives = {name: _least(part) for name, part in lives.items()}
         return self._told(self._table("nodes" if by == "node" else "all", lives))
 
-    def tables(self, **battery: float) -> dict[str, pd.DataFrame]:
+    def tables(self, **battery: Any) -> dict[str, pd.DataFrame]:
         """All tables, by the names that the page and the command line have for them."""
         found = {"network": self.network(**battery)}
         for name, ask in (("delivery", self.delivery_ratio), ("deadline", self.deadline), ("latency", self.latency)):
@@ -215,13 +216,16 @@ class Sample:
             "duty_cycle": on / had, "duty_cycle_in_rounds": (on - searching) / had,
         }  # fmt: skip
 
-    def _lives(self, battery: dict[str, float]) -> dict[str, Numbers]:
+    def _lives(self, battery: dict[str, Any]) -> dict[str, Numbers]:
         """The battery lives, of each seed and node."""
         shape = self._spent["on_seconds"].shape
-        lives = radio.lives_of(pd.DataFrame({name: part.ravel() for name, part in self._spent.items()}), **battery)
+        table = pd.DataFrame({name: part.ravel() for name, part in self._spent.items()})
+        table["node"] = np.tile(sorted(self.scenario.nodes), len(self.seeds))
+        words: dict[str, Any] = {**battery, "mains": radio.on_mains(self.scenario, battery.get("mains", ()))}
+        lives = radio.lives_of(table, **words)
         return {name: lives[name].to_numpy(dtype="float64").reshape(shape) for name in ("days", "days_in_rounds")}
 
-    def _runs(self, battery: dict[str, float]) -> pd.DataFrame:
+    def _runs(self, battery: dict[str, Any]) -> pd.DataFrame:
         whole, fates = self._of("all"), self._tallies.fates.sum(axis=1)
         found = {"seed": np.array(self.seeds, dtype="int64"), "ratio_of_put": whole.ratio("delivered", "put")[:, 0]}
         if self.deadline_seconds is not None:

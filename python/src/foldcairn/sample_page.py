@@ -2,9 +2,7 @@
 
 from __future__ import annotations
 
-import html
-from collections.abc import Mapping
-from pathlib import Path
+from collections.abc import Mapping, Sequence
 from typing import Any
 
 import pandas as pd
@@ -28,71 +26,67 @@ _TITLES = {
 }
 
 
-def titles(sample: Sample, battery: Mapping[str, float]) -> dict[str, str]:
+# The words of the quantities, and those over the columns.
+_QUANTITIES = {
+    "ratio_of_put": "delivered, part of what was put", "within_deadline": "delivered within the deadline, part of what was put",
+    "latency_median": "half of the deliveries came within, s", "latency_p90": "90 % of the deliveries came within, s",
+    "dropped": "dropped at once, part of the packets", "sent": "sent, part of the packets", "waiting": "waiting at the end, part of the packets",
+    "cleared": "in a queue that was emptied, part of the packets", "duty_cycle": "duty cycle", "duty_cycle_in_rounds": "duty cycle without searching",
+    "on_seconds": "radio on, s", "scanned_frames": "frames at whose start it searched", "searching_seconds": "searching for a host, s",
+    "days": "battery life, days", "days_in_rounds": "battery life without searching, days",
+}  # fmt: skip
+_HEADS = {
+    "quantity": "number", "error": "standard error", "low": "mean from", "high": "to (95 %)", "p5": "5 % of seeds below", "p50": "median",
+    "p95": "95 % below",
+}  # fmt: skip
+
+
+def in_words(table: pd.DataFrame) -> pd.DataFrame:
+    """A table of a sample as a page shows it: quantities and columns by words; what has none has its name."""
+    told = table.assign(quantity=[_QUANTITIES.get(word, word) for word in table["quantity"]])
+    return told.rename(columns=_HEADS)
+
+
+def titles(sample: Sample, battery: Mapping[str, Any]) -> dict[str, str]:
     """The titles of the tables of a sample, with the receivers, the deadline and the battery that are meant."""
-    words = {"whom": sample.receivers, "seconds": f"{sample.deadline_seconds or 0:g}", "battery": findings.battery_words(dict(battery))}
+    words = {"whom": sample.receivers, "seconds": f"{sample.deadline_seconds or 0:g}", "battery": findings.battery_words(sample.scenario, battery)}
     known = sample.deadline_seconds is not None
     return {name: title.format(**words) for name, title in _TITLES.items() if known or not name.startswith("deadline")}
 
 
-def text(sample: Sample, title: str, battery: Mapping[str, float]) -> str:
+def text(sample: Sample, title: str, battery: Mapping[str, Any]) -> str:
     """The page of a sample: a map, all tables, and what was run."""
     # matplotlib and plotly are needed for a page alone.
-    from . import page, plot
+    from . import markup, page, plot
 
     scenario, tables = sample.scenario, sample.tables(**battery)
     named = titles(sample, battery)
     whole = named.pop("network")
     about = (
-        f"{page.about_network(scenario)} It was run with {len(sample.seeds):,} seeds. Each seed draws the losses anew from the "
+        f"{page.about_network(scenario)} It was run with {_many(sample.seeds)}. Each seed draws the losses anew from the "
         "reception ratios. A number has its mean over the seeds, the standard error of that, the interval in which the mean of all seeds lies "
         "with 95 % (from low to high), and quantiles over the seeds."
     )
-    remarks = "".join(f"<p>{html.escape(remark)}</p>" for remark in sample.remarks())
-    parts = [
-        f"<h1>{html.escape(title)}</h1><p>{html.escape(about)}</p>{remarks}",
-        f"<h2>{html.escape(whole)}</h2>{_shown(tables['network'])}{_meanings(tables['network'])}",
-        f'<section class="figure"><h2>The map</h2>{page.picture("The network", lambda: plot.topology(scenario))}</section>',
-        '<h2 class="screen">Tables</h2><p class="screen">A click on a title shows its table.</p>',
-        *(_section(name, words, tables[name]) for name, words in named.items()),
-        _origin(sample.origin),
-    ]
-    css = (Path(__file__).parent / "page.css").read_text(encoding="utf-8")
-    head = f'<meta charset="utf-8"><meta name="viewport" content="width=device-width"><title>{html.escape(title)}</title>'
-    body = "\n".join(parts)
-    return f'<!DOCTYPE html>\n<html lang="en"><head>{head}<style>\n{css}</style></head>\n<body>\n{body}\n</body></html>\n'
+    return markup.page(
+        "sample.html", title=title, about=about, remarks=sample.remarks(),
+        whole=markup.section("network", whole, in_words(tables["network"]), _meanings(tables["network"])),
+        map=markup.picture("The map", lambda: plot.topology(scenario)),
+        tables=[markup.section(name, words, in_words(tables[name]), {}) for name, words in named.items()],
+        seeds=_seeds(sample.origin["seeds"]), origin=sample.origin,
+    )  # fmt: skip
 
 
-def _shown(table: pd.DataFrame) -> str:
-    found: str = table.to_html(index=False, border=0, na_rep="–", float_format=lambda number: f"{number:.3f}")
-    return found
-
-
-def _meanings(table: pd.DataFrame) -> str:
+def _meanings(table: pd.DataFrame) -> dict[str, str]:
     """What the quantities of a table and its columns mean, as the docstrings say it."""
     told = {**meanings.of_docstring(Sample.network), **meanings.of_docstring(intervals.over_seeds)}
-    by_meaning: dict[str, list[str]] = {}
-    for word in (*dict.fromkeys(table["quantity"]), *table.columns):
-        if word in told:
-            by_meaning.setdefault(told[word].rstrip(". ").replace("`", ""), []).append(word)
-    rows = "".join(f"<dt>{html.escape(', '.join(words))}</dt><dd>{html.escape(meaning)}</dd>" for meaning, words in by_meaning.items())
-    return f"<dl>{rows}</dl>"
+    words = dict.fromkeys((*table["quantity"], *table.columns))
+    return {{**_QUANTITIES, **_HEADS}.get(word, word): told[word].rstrip(". ").replace("`", "") for word in words if word in told}
 
 
-def _section(name: str, title: str, table: pd.DataFrame) -> str:
-    """A table that is shown by a click on its title, and always in print."""
-    return (
-        f'<section class="table"><input type="checkbox" id="show-{name}"><label for="show-{name}">{html.escape(title)}</label>'
-        f'<div class="shown">{_shown(table)}</div></section>'
-    )
+def _many(seeds: Sequence[int]) -> str:
+    return f"{len(seeds):,} seeds" if len(seeds) > 1 else findings.draw(seeds[0])
 
 
-def _origin(attrs: Mapping[str, Any]) -> str:
-    """What was run, by which anyone can make the same runs again."""
-    seeds = attrs["seeds"]
-    listed = f"{seeds[0]} to {seeds[-1]}" if seeds == list(range(seeds[0], seeds[-1] + 1)) else ", ".join(map(str, seeds))
-    return (
-        f"<h2>What was run</h2><p>Seeds: {listed}. The SHA-256 of the network's text with its ratios is <code>{attrs['text']['scenario']}</code>, "
-        f"that of the program is <code>{attrs['planner']}</code>. What the program counts of a seed is proved to follow its rules; the statistics "
-        f"and this page are by the Python package {html.escape(attrs['package'])}, which is tested, not proved.</p>"
-    )
+def _seeds(seeds: Sequence[int]) -> str:
+    """The seeds by which anyone can make the same runs again."""
+    return f"{seeds[0]} to {seeds[-1]}" if list(seeds) == list(range(seeds[0], seeds[-1] + 1)) else ", ".join(map(str, seeds))

@@ -18,6 +18,7 @@ from .arguments import ArgumentError
 from .events import Capture, Cut, Leave, Loss, Off, On, Put, Rate, Ratio, ScriptLine, Stream, millionths
 from .lines import Context, Field
 from .topology import grid, line, random_geometric, star
+from .visible import visible
 
 if TYPE_CHECKING:
     import os
@@ -387,7 +388,7 @@ class Scenario:
 
     def name(self, node: int) -> str:
         """The name of a node, which is its id where it has none."""
-        return self.labels.get(node, str(node))
+        return visible(self.labels.get(node, str(node)))
 
     def stream_name(self, node: int, stream: int) -> str:
         """A stream in few letters: its node's name and its number, as "7.0"."""

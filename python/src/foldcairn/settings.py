@@ -14,7 +14,7 @@ from dataclasses import asdict, dataclass, field
 from pathlib import Path
 from typing import Any
 
-from . import arguments
+from . import arguments, radio
 from .arguments import ArgumentError
 from .results import Log
 from .scenario import Scenario
@@ -25,9 +25,9 @@ Kind = Callable[[Any], bool]
 # How many letters of what is wrong are shown.
 _SHOWN_MOST = 60
 # What a page can be given, and words that other calls and the command line have for it.
-_WORDS = ("title", "site", "plan", "notes", "positions", "receivers", "battery", "background", "extent")
+_WORDS = ("title", "site", "plan", "notes", "positions", "receivers", "battery", "background", "extent", "deadline")
 _OTHER_WORDS = {"places": "positions", "sinks": "receivers", "capacity_mah": "battery", "name": "title"}
-_BATTERY = ("capacity_mah", "transmit_ma", "receive_ma", "sleep_ma")
+_BATTERY = ("capacity_mah", "transmit_ma", "receive_ma", "sleep_ma", "mains", "target_days")
 
 
 @dataclass(frozen=True)
@@ -40,7 +40,7 @@ class Settings:
     notes: str = ""
     positions: list[tuple[int, float, float]] | None = None
     receivers: Any = None
-    battery: dict[str, float] = field(default_factory=dict)
+    battery: dict[str, Any] = field(default_factory=dict)
     background: str = ""
     extent: tuple[float, float, float, float] | None = None
     ratios: list[tuple[int, int, float]] = field(default_factory=list)
@@ -48,15 +48,18 @@ class Settings:
     labels: list[tuple[int, str]] = field(default_factory=list)
     keep_alive: list[tuple[int, int]] = field(default_factory=list)
     seed: int | None = None
+    deadline: float | None = None
 
     @classmethod
     def of(
         cls, scenario: Scenario, *, title: str = "A run", site: str = "", plan: str = "", notes: str = "", positions: Places | None = None,
-        receivers: Any = None, battery: Mapping[str, float] | None = None,
-        background: str | os.PathLike[str] | bytes | None = None, extent: tuple[float, float, float, float] | None = None, **other: Any,
+        receivers: Any = None, battery: Mapping[str, Any] | None = None,
+        background: str | os.PathLike[str] | bytes | None = None, extent: tuple[float, float, float, float] | None = None,
+        deadline: float | None = None, **other: Any,
     ) -> Settings:  # fmt: skip
         """The settings of a page of this scenario, with what no text of it has. Raises `ArgumentError` for a word of `battery` that
-        `planning.battery_life` does not have, or any `other` word, and `OSError` where the background can't be read."""
+        `planning.battery_life` does not have, any `other` word or a deadline that is not above 0, and `OSError` where the background can't
+        be read."""
         for word in other:
             near = _OTHER_WORDS.get(word) or arguments.near(word, _WORDS)
             raise ArgumentError(f"a page has no {word!r}; {f'did you mean {near}? ' * bool(near)}it has {', '.join(_WORDS)}")
@@ -67,11 +70,11 @@ class Settings:
         return cls(
             title, site, plan, notes,
             None if positions is None else [(int(node), float(x), float(y)) for node, (x, y) in sorted(positions.items())],
-            _plain(given), {name: float(value) for name, value in (battery or {}).items()}, base64.b64encode(picture).decode(),
+            _plain(given), _of_battery(scenario, battery or {}), base64.b64encode(picture).decode(),
             None if extent is None else (float(extent[0]), float(extent[1]), float(extent[2]), float(extent[3])),
             [(*link, ratio) for link, ratio in sorted(scenario.prr.items())],
             [(*place, ratio) for place, ratio in sorted(scenario.ratios.items())], sorted(scenario.labels.items()), sorted(scenario.keep_alive),
-            scenario.seed,
+            scenario.seed, None if deadline is None else arguments.real("deadline", deadline, above=0),
         )  # fmt: skip
 
     @classmethod
@@ -174,6 +177,7 @@ _KINDS: dict[str, Kind] = {
     "receivers": _are_receivers,
     "battery": _is_battery,
     "background": _is_picture,
+    "deadline": lambda value: value is None or _is_number(value),
     "extent": lambda value: value is None or _is_list(value, *[_is_number] * 4),
     "ratios": _are_lists(_is_whole, _is_whole, _is_ratio),
     "later_ratios": _are_lists(_is_whole, _is_whole, _is_whole, _is_ratio),
@@ -181,6 +185,12 @@ _KINDS: dict[str, Kind] = {
     "keep_alive": _are_lists(_is_whole, _is_whole),
     "seed": lambda value: value is None or _is_whole(value),
 }
+
+
+def _of_battery(scenario: Scenario, battery: Mapping[str, Any]) -> dict[str, Any]:
+    """The words of a battery in a form that JSON has, with the nodes on mains by their ids."""
+    mains = {"mains": sorted(radio.on_mains(scenario, battery["mains"]))} if "mains" in battery else {}
+    return {**{name: float(value) for name, value in battery.items() if name != "mains"}, **mains}
 
 
 def _plain(receivers: Any) -> Any:

@@ -44,6 +44,8 @@ _SETTINGS = {
     "text.color": INK, "axes.labelcolor": INK, "xtick.color": INK, "ytick.color": INK, "axes.edgecolor": FAINT,
     "axes.facecolor": GROUND, "figure.facecolor": GROUND, "legend.frameon": False, "legend.fontsize": 8.5,
     "svg.fonttype": "none", "svg.hashsalt": "foldcairn", "path.simplify": False,
+    # A name may have dollars, and is no formula.
+    "text.parse_math": False,
 }  # fmt: skip
 
 
@@ -83,11 +85,12 @@ def plain(drawn: Axes) -> Axes:
 
 
 def heading(drawn: Axes, title: str, note: str | None = None, *, above: float = 10.0) -> None:
-    """A title this many points above the axes, with a note in pale letters below it."""
+    """A title this many points above the axes, with a note of one line or several in pale letters below it."""
     if note:
-        drawn.annotate(note, (0, 1), (0, above), xycoords="axes fraction", textcoords="offset points", fontsize=8.5, color=PALE)
+        below = "bottom" if "\n" in note else "baseline"
+        drawn.annotate(note, (0, 1), (0, above), xycoords="axes fraction", textcoords="offset points", fontsize=8.5, color=PALE, va=below)
     # Without `y` matplotlib looks at all scales again, each time that it draws, for what a title might cover.
-    drawn.set_title(title, y=1.0, pad=above + (16.0 if note else 0.0))
+    drawn.set_title(title, y=1.0, pad=above + (4.0 + 12.0 * (1 + note.count("\n")) if note else 0.0))
 
 
 def key(drawn: Axes, columns: int, below: float = 0.5, more: Sequence[Artist] = ()) -> None:

@@ -13,7 +13,7 @@ from matplotlib.path import Path
 from matplotlib.ticker import MaxNLocator
 from numpy.typing import NDArray
 
-from . import arguments, style, timing
+from . import arguments, findings, style, timing
 from .results import Log
 from .rounds import rounds
 from .scenario import Scenario
@@ -41,7 +41,7 @@ def timeline(
     slots, with what the node received and transmitted in them; from about 60 ms down with the steps as numbers. Times are
     seconds of true time from the start of the run, in windows below 2 s milliseconds after the window's start.
 
-    `note` is a line below the title. With `axes` it is drawn there, without the key, as a part of their figure.
+    `note` is a line below the title, after the seed by which the losses were drawn. With `axes` it is drawn there, without the key, as a part of their figure.
 
     Raises `ValueError` where the window has no length or lies outside of the run, a frame has no round, or a node is none of the
     scenario.
@@ -62,7 +62,8 @@ def timeline(
         _rows(drawn, log.scenario, shown)
         drawn.set_xlim(start_seconds, end)
         _times(drawn, log.scenario, start_seconds, end)
-        style.heading(drawn, title or f"The radios from {start_seconds:g} s to {end:g} s", note, above=above)
+        notes = [findings.draw(log.scenario.seed), note or ""]
+        style.heading(drawn, title or f"The radios from {start_seconds:g} s to {end:g} s", "; ".join(filter(None, notes)) or None, above=above)
         if axes is None:
             style.key(drawn, 6, more=[Patch(facecolor=style.GROUND, edgecolor=style.FAINT, label="radio off")])
     return drawn.get_figure()
@@ -79,9 +80,9 @@ def _of_round(log: Log, frame: int) -> tuple[float, float]:
 
 def _rows(drawn: Axes, scenario: Scenario, shown: list[int]) -> None:
     ranks = {node: rank for rank, node in scenario.hosts.items()}
-    named = {node: scenario.labels.get(node, f"node {node}") for node in shown}
+    named = {node: findings.node(scenario, node) for node in shown}
     names = [f"host {ranks[node]}, {named[node]}" if node in ranks else named[node] for node in shown]
-    drawn.set_yticks(range(len(shown)), names)
+    drawn.set_yticks(range(len(shown)), names, parse_math=False)
     drawn.set_ylim(len(shown) - 0.4, -0.6)
     drawn.spines["left"].set_visible(False)
 
