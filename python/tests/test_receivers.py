@@ -33,10 +33,14 @@ def test_whichever_host_serves(failover: Log) -> None:
     assert planning.summary(failover, receivers="hosts")["ratio_of_put"] == 0.5
 
 
-def test_a_packet_that_is_never_sent_is_meant_for_the_host_that_served_last() -> None:
-    # bb is put in the last frame, too late for a round; node 2 hosts by then.
+def test_a_packet_that_is_never_sent_is_not_delivered_and_in_no_row_of_a_node() -> None:
+    # bb is put in the last frame, too late for a round; node 2 hosts by then, and nothing is sent in its rounds.
     log = results.log(FAILOVER.replace("put 20 3 0 bb", "put 31 3 0 bb"))
-    assert ratios(log, "hosts", "node") == [[1, 1, 0, 0], [1, 0, 0, 0]]
+    assert ratios(log, "hosts", "node") == ratios(log, "hosts", "pair") == [[1, 1, 0, 0]]
+    assert ratios(log, "hosts") == ratios(log, "hosts", "stream") == [[2, 1, 0, 0]]
+    assert planning.deadline(log, 30, "all", receivers="hosts")[["due", "never"]].values.tolist() == [[1, 1]]
+    # A named receiver has all that is put.
+    assert ratios(log, 2, "node") == [[2, 1, 1, 1]]
 
 
 def test_a_host_has_its_own_packets_already() -> None:

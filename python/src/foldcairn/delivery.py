@@ -13,7 +13,7 @@ import pandas as pd
 
 from . import arguments, fates as _fates, power
 from .answers import report_answer
-from .receivers import Meant, Receivers, meant, of_streams, stream_index
+from .receivers import NO_HOST, Meant, Receivers, meant, of_streams, stream_index
 from .results import PACKET, Log, Report, slot_seconds
 
 FATES = (
@@ -33,8 +33,9 @@ def packets(log: Report) -> pd.DataFrame:
     keep_alive            whether it is one of `Scenario.stream(.., keep_alive=..)`, which no answer counts
     sent_frame, sent_slot  in which frame and data slot its node transmitted it first; -1 if it never did
     sent_seconds          when that was, in seconds of true time; missing if it never was
-    rank                  the channel on which it did, by the rank of its host; -1 if it never did
+    rank                  the rank of that round, which tells its host and its channel; -1 if it never did
     deliveries            how many nodes delivered it
+    host_delivered        whether the host of this rank is one of them; never where that is the source
     first_seconds, last_seconds   when the first and the last of them had received it, as `results.Log` has it
     fate                  "delivered" (by at least one node); "delivered by none" (it was sent); "queued" (it waits at the end
                           of the run); "lost with its node" (power went off while it waited); "withdrawn" (its stream was
@@ -42,17 +43,18 @@ def packets(log: Report) -> pd.DataFrame:
     cleared_frame         in which frame it was lost with its node or withdrawn; -1 if it was not
 
     A report without a log has no true times. In place of `sent_seconds`, `first_seconds` and `last_seconds` it has
-    `planned_sent_seconds`, `planned_first_seconds` and `planned_last_seconds`, all three the start of its slot by plan; its `rank` is
-    -1 also of packets that were sent and delivered by none. Raises what `foldcairn.fates.of` raises.
+    `planned_sent_seconds`, `planned_first_seconds` and `planned_last_seconds`, all three the start of its slot by plan. Raises what
+    `foldcairn.fates.of` raises.
     """
     table = _fates.puts(log)
     table["keep_alive"] = of_streams(table, log.scenario.keep_alive) & (table["payload"] == "-")
     sent, first, last = _times(log)
     came = _arrivals(log).groupby(PACKET)["delivered_seconds"].agg(**{first: "min", last: "max"}).reset_index()
-    table = _joined(_joined(table, _sent(log)), came)
-    if not isinstance(log, Log):
+    table = _joined(table, came)
+    if isinstance(log, Log):
+        table = _joined(table, _sent(log))
+    else:
         table[sent] = slot_seconds(log.scenario.profile, table["sent_frame"], table["sent_slot"]).where(table["sent_frame"] >= 0)
-    table["rank"] = table["rank"].fillna(-1).astype("int64")
     became = table["became"].astype(str)
     fate = np.select(
         [became == "dropped", table["deliveries"] > 0, became == "sent", became == "cleared"],
@@ -60,7 +62,7 @@ def packets(log: Report) -> pd.DataFrame:
         "queued",
     )
     table["fate"] = pd.Categorical(fate, categories=FATES)
-    told = ["sent_frame", "sent_slot", sent, "rank", "deliveries", first, last, "fate", "cleared_frame"]
+    told = ["sent_frame", "sent_slot", sent, "rank", "deliveries", "host_delivered", first, last, "fate", "cleared_frame"]
     return table[["frame", "put_seconds", "source", "boot", "stream", "number", "payload", "keep_alive", *told]]
 
 
@@ -70,12 +72,10 @@ def _times(log: Report) -> tuple[str, str, str]:
     return f"{clock}sent_seconds", f"{clock}first_seconds", f"{clock}last_seconds"
 
 
-def _sent(log: Report) -> pd.DataFrame:
-    """On which channel each packet was sent first, and when by true time; without a log, of those that were delivered, and no time."""
-    if isinstance(log, Log):
-        data = log.initiations[log.initiations["kind"] == "data"]
-        return data.rename(columns={"origin": "source", "start_seconds": "sent_seconds"})[[*PACKET, "sent_seconds", "rank"]]
-    return log.deliveries.drop_duplicates(PACKET)[[*PACKET, "rank"]]
+def _sent(log: Log) -> pd.DataFrame:
+    """When each packet was sent first, by true time."""
+    data = log.initiations[log.initiations["kind"] == "data"]
+    return data.rename(columns={"origin": "source", "start_seconds": "sent_seconds"})[[*PACKET, "sent_seconds"]]
 
 
 def _arrivals(log: Report) -> pd.DataFrame:
@@ -126,8 +126,9 @@ def delivery_ratio(
 
     `by` is "stream" (a row for each source and stream that is requested or gets packets), "node" (a row for each receiving node),
     "pair" (a row for each source, stream and receiving node) or "all" (one row). `receivers` says for whom packets are meant, in
-    the forms of `foldcairn.receivers`: "hosts" is whichever host serves. Only packets that were put from `start_seconds` on and
-    before `end_seconds` (the end of the run) count: both are true time, in seconds from the start of the run.
+    the forms of `foldcairn.receivers`: "hosts" is whichever host serves, so a packet that was never sent is in no row of a node.
+    Only packets that were put from `start_seconds` on and before `end_seconds` (the end of the run) count: both are true time, in
+    seconds from the start of the run.
 
     All counts are of pairs of a packet and a receiver of it.
     put, sent          the packets that were put, and those of them that their node transmitted
@@ -149,6 +150,8 @@ def delivery_ratio(
 
 def _summed(log: Report, pairs: pd.DataFrame, by: str, keys: list[str], counts: list[str]) -> pd.DataFrame:
     """The sums of these columns, which are truths, over pairs that are `inside`: a row for each group, also where it is 0."""
+    if "node" in keys:
+        pairs = pairs[pairs["node"] != NO_HOST]
     values = pairs[counts].mul(pairs["inside"], axis=0)
     if not keys:
         return values.sum().astype("int64").to_frame().T
@@ -175,9 +178,9 @@ def _pairs(log: Report, receivers: Receivers) -> pd.DataFrame:
 
 
 def _worked_out(log: Report, whom: Meant) -> pd.DataFrame:
-    table = packets(log).rename(columns={_times(log)[0]: "sent_seconds"})
-    table = table.loc[~table["keep_alive"], [*PACKET, "put_seconds", "sent_frame", "sent_seconds", "rank"]]
-    pairs = whom.pairs(log, table.reset_index(drop=True))
+    table = packets(log)
+    table = table.loc[~table["keep_alive"], [*PACKET, "put_seconds", "sent_frame", "rank"]]
+    pairs = whom.pairs(table.reset_index(drop=True))
     got = _arrivals(log)[[*PACKET, "node", "delivered_seconds"]]
     pairs = pairs.merge(got.astype({name: "int64" for name in (*PACKET, "node")}), how="left", on=[*PACKET, "node"])
     pairs["delivered"] = pairs["delivered_seconds"].notna()

@@ -95,7 +95,7 @@ class Sample:
         """The part, 0 to 1, of what was put that was delivered, of pairs of a packet and a receiver that it is meant for: `ratio_of_put`.
 
         `by` is "stream" (of each source and stream), "node" (at each receiver; of packets that are meant for whichever host serves, at
-        each host that served) or "all". Raises `ArgumentError` where it is another word."""
+        the host of the round in which they were sent) or "all". Raises `ArgumentError` where it is another word."""
         found = self._of(by)
         return self._told(self._table(by, {"ratio_of_put": found.ratio("delivered", "put")}, share=True))
 
@@ -237,9 +237,8 @@ def sample(
     """How the answers about a network spread over seeds: each seed draws the losses anew from the reception ratios (`prr`, `ratios`), and
     the run may be as long as for `results.outcome`. `Sample` says what it has. Times are by plan, in seconds.
 
-    receivers   for whom packets are meant, in the forms of `foldcairn.receivers`. The program counts what arrives at which node, and not
-                which host served then. So for "hosts", where there are several, and for streams with `keep_alive`, each seed is asked
-                for its deliveries and fates too, which takes about three times as long
+    receivers   for whom packets are meant, in the forms of `foldcairn.receivers`. Where streams have `keep_alive`, whose packets the
+                program counts too, each seed is asked for its deliveries and fates in addition, which takes about three times as long
     deadline    a time in seconds, for the part of the packets that is delivered within it (`Sample.deadline`)
     executor    an executor of `concurrent.futures`, or a client of `distributed`; without one a process for each processor
     results     a folder that keeps each seed in a file as soon as it is there; a later call, also one of other seeds, takes what is there
