@@ -97,6 +97,23 @@ def test_importance_of_what_arrives_at_the_host() -> None:
     assert (cut["ratio"], cut["ratio_cut"]) == pytest.approx((1, 2 / 3))
 
 
+def test_power_counts_in_the_frame_in_which_a_packet_is_sent() -> None:
+    """Node 3 sends in frame 9. A neighbour of the host goes off just then, or one frame later, or comes on just then."""
+    more = LINE + "node 4 0\npair 1 4\n"
+    assert ratios(results.log(more + "on 0 4\noff 9 4\n"), 4) == [[1, 1, 0, 0]]
+    assert ratios(results.log(more + "on 0 4\noff 10 4\n"), 4) == [[1, 1, 1, 1]]
+    assert ratios(results.log(more + "on 9 4\n"), 4) == [[1, 1, 1, 1]]
+
+
+def test_what_is_put_from_a_time_on_and_before_another(failover: Log) -> None:
+    # The packets are put at 0 and at 80 s.
+    for window, count in (((0, 80), 1), ((0, 80.001), 2), ((80, 128), 1), ((80.001, 128), 0), ((0, 128), 2)):
+        given = dict(zip(("start_seconds", "end_seconds"), window), receivers=2)
+        assert planning.delivery_ratio(failover, "all", **given)["put"].tolist() == [count]
+        assert planning.latency(failover, "all", **given)["deliveries"].tolist() == [count]
+        assert planning.deadline(failover, 48, "all", **given)["due"].tolist() == [count]
+
+
 # Deadlines.
 
 
@@ -106,7 +123,11 @@ def test_the_share_within_a_deadline(failover: Log) -> None:
         return planning.deadline(failover, seconds, receivers=whom)[["due", "in_time", "late", "never"]].values.tolist()
 
     assert told(37) == [[2, 0, 2, 0]] and told(38) == [[2, 1, 1, 0]] and told(46) == [[2, 2, 0, 0]]
-    # A deadline after the end of the run, at 128 s, tells nothing.
+    # Just at the deadline is in time, and a deadline just at the end of the run, at 128 s, is due.
+    first, second = sorted(planning.latencies(failover, receivers=2)["latency_seconds"])
+    assert told(first) == [[2, 1, 1, 0]] and told(second) == [[2, 2, 0, 0]] and told(48) == [[2, 2, 0, 0]]
+    assert told(np.nextafter(first, 0)) == [[2, 0, 2, 0]]
+    # One after the end of the run tells nothing.
     assert told(49) == [[1, 1, 0, 0]] and told(46, "hosts") == [[2, 1, 0, 1]]
     assert planning.deadline(failover, 46, receivers="hosts")["share"].tolist() == [0.5]
     assert planning.deadline(failover, 46, "all")["share"].tolist() == [0.5]

@@ -272,7 +272,8 @@ def no_host_from(log: Log) -> float:
     opened = rounds(log)
     if opened.empty:
         return float("nan")
-    opened = opened.assign(due=opened["frame"].astype("int64") + opened["gap"].fillna(1).astype("int64"))
+    # Where nobody knows the gap the next round may be due in the next frame.
+    opened = opened.assign(due=opened["frame"] + opened["gap"].clip(lower=1))
     last = opened.sort_values("start_seconds").groupby(TERM).last()
     if (last["due"] >= log.scenario.frames).any():
         return float("nan")
