@@ -139,15 +139,16 @@ def test_a_report_without_a_log_has_the_same_packets_and_its_times_by_plan() -> 
 
 
 def test_plan_times_of_the_worked_failover() -> None:
-    """Slot 1 of the rounds in frames 9 and 31: 37.033 s and 125.033 s. Packets go on the air 1 ms later, if clocks are right."""
+    """Slot 1 of the rounds in frames 9 and 31: from 37.033 s and 125.033 s on, for 33 ms. Packets go on the air 1 ms later, if clocks are
+    right."""
     told = planning.packets(results.bus(FAILOVER))
     assert told["planned_sent_seconds"].tolist() == pytest.approx([37.033, 125.033])
     assert told["planned_first_seconds"].tolist() == told["planned_last_seconds"].tolist() == told["planned_sent_seconds"].tolist()
     assert told[["sent_frame", "sent_slot", "rank"]].values.tolist() == [[9, 1, 0], [31, 1, 1]]
     waited = planning.latencies(results.bus(FAILOVER))
     assert not {"delivered_seconds", "latency_seconds"} & set(waited)
-    assert waited["planned_latency_seconds"].tolist() == pytest.approx([37.033, 45.033])
-    assert (waited["planned_seconds"] - waited["put_seconds"]).tolist() == waited["planned_latency_seconds"].tolist()
+    assert waited["planned_delivered_seconds"].tolist() == pytest.approx([37.066, 125.066])
+    assert waited["planned_latency_seconds"].tolist() == pytest.approx([37.066, 45.066])
     assert plot.latency(waited).axes[0].get_ylabel() == "seconds from put to delivery, by plan"
     assert plot.latency(planning.latencies(log_of(FAILOVER))).axes[0].get_ylabel() == "seconds from put to delivery"
 

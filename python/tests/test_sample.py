@@ -144,7 +144,7 @@ def test_each_seed_is_what_its_report_says(number: int, form: int, pool: Executo
     # Latencies by the rounds of the reports: frames from the put to the delivery, and how long a round with all its slots is.
     length = 1 + 41 * 0.033
     for place, one in enumerate(reports):
-        waited = np.sort((planning.latencies(one, receivers=whom)[["put_seconds", "planned_seconds"]] // 4).diff(axis=1).iloc[:, 1].to_numpy())
+        waited = np.sort((planning.latencies(one, receivers=whom)[["put_seconds", "planned_delivered_seconds"]] // 4).diff(axis=1).iloc[:, 1].to_numpy())
         for name, part in (("latency_median", 0.5), ("latency_p90", 0.9)):
             wanted = 4 * np.quantile(waited, part, method="inverted_cdf") + length if len(waited) else np.nan
             assert found.runs[name][place] == pytest.approx(wanted, nan_ok=True)
@@ -415,11 +415,18 @@ def test_words_that_make_no_sense(words: list[str], says: str, folder: Path, cap
 
 
 def test_tallies_of_ties() -> None:
-    # Of ten deliveries nine in 0 frames: 90 % took no longer, and the deadline lies below the first.
-    table = pd.DataFrame({"place": 0, "group": 0, "at": 0, "frames": [0, 7], "count": [9, 1]})
-    numbers = tallies._numbers(table, np.zeros(2, dtype="int64"), np.array([[20.0]]), tallies._frames_within(2, 1.0), 2)
-    assert numbers[0, :, 0].tolist() == pytest.approx([20, 10, 0, 1 + 41 * 0.056, 1 + 41 * 0.056])
-    assert [tallies._frames_within(1, seconds) for seconds in (2.3, 2.353, 6.352, 6.353, 30)] == [-1, 0, 0, 1, 6]
+    # Of ten deliveries nine took 3 s at most: 90 % took no longer, and half of them neither. The two groups and seeds are apart.
+    table = pd.DataFrame({"place": [0, 0, 1], "seconds": [38.0, 3.0, 7.0], "count": [1, 9, 4]})
+    group = np.array([0, 0, 1], dtype="int64")
+
+    def numbers(deadline: float | None) -> list[list[float]]:
+        return tallies._numbers(table, group, np.full((2, 2), 20.0), deadline).transpose(0, 2, 1).reshape(4, 5).tolist()
+
+    nothing = [20, 0, 0, pytest.approx(np.nan, nan_ok=True), pytest.approx(np.nan, nan_ok=True)]
+    assert numbers(None) == [[20, 10, 0, 3, 3], nothing, nothing, [20, 4, 0, 7, 7]]
+    # A delivery just at the deadline is in time.
+    assert [row[2] for row in numbers(3.0)] == [9, 0, 0, 0] and [row[2] for row in numbers(2.999)] == [0] * 4
+    assert [row[2] for row in numbers(38.0)] == [10, 0, 0, 4]
 
 
 # Sweeps.

@@ -3,7 +3,8 @@
 What became of each packet is the answer of the planner's program (`foldcairn.fates`), which is proved; a log adds the times. Each
 answer takes a `results.Log`, or a report without a log, as `results.outcome` gives it for runs of hours. All times are seconds from
 the start of the run, or spans of it. Those of a log are true time. A report without a log has no true times of packets: the columns
-of its times begin with `planned_`, and are those of the starts of slots by plan. This module is tested, not proved.
+of its times begin with `planned_`, and are by plan. A latency counts from the time that was given for the put (`foldcairn.moments`);
+with a log it is exact, without one it is at least the real one. This module is tested, not proved.
 """
 
 from __future__ import annotations
@@ -11,7 +12,7 @@ from __future__ import annotations
 import numpy as np
 import pandas as pd
 
-from . import arguments, fates as _fates, power
+from . import arguments, fates as _fates, moments, power
 from .answers import report_answer
 from .receivers import NO_HOST, Meant, Receivers, meant, of_streams, stream_index
 from .results import PACKET, Log, Report, slot_seconds
@@ -26,7 +27,7 @@ FATES = (
 def packets(log: Report) -> pd.DataFrame:
     """Where each packet went: a row for each put, in the order in which they happen.
 
-    frame, put_seconds    the frame of the put, and its start in seconds
+    frame, put_seconds    the frame at whose start the packet was handed over, and when it was put, in seconds: at most a frame before
     source, stream        the node and stream that it was put to
     boot, number          the boot of the node (0 without power) and the packet's number in it, -1 if it was dropped
     payload               in hexadecimal digits, `-` for none
@@ -81,6 +82,15 @@ def _sent(log: Log) -> pd.DataFrame:
 def _arrivals(log: Report) -> pd.DataFrame:
     """The deliveries with `delivered_seconds`, which is by plan where there is no log."""
     return log.deliveries if isinstance(log, Log) else log.deliveries.rename(columns={"planned_seconds": "delivered_seconds"})
+
+
+def _received(log: Report) -> pd.DataFrame:
+    """The deliveries with `delivered_seconds`: when the node had received the packet, or by when at the latest where there is no log."""
+    if isinstance(log, Log):
+        return log.deliveries
+    # The slot ends by plan where the next one starts.
+    ends = slot_seconds(log.scenario.profile, log.deliveries["frame"], log.deliveries["slot"] + 1)
+    return log.deliveries.assign(delivered_seconds=ends + moments.late_seconds(log.scenario))
 
 
 def _joined(table: pd.DataFrame, other: pd.DataFrame) -> pd.DataFrame:
@@ -181,7 +191,7 @@ def _worked_out(log: Report, whom: Meant) -> pd.DataFrame:
     table = packets(log)
     table = table.loc[~table["keep_alive"], [*PACKET, "put_seconds", "sent_frame", "rank"]]
     pairs = whom.pairs(table.reset_index(drop=True))
-    got = _arrivals(log)[[*PACKET, "node", "delivered_seconds"]]
+    got = _received(log)[[*PACKET, "node", "delivered_seconds"]]
     pairs = pairs.merge(got.astype({name: "int64" for name in (*PACKET, "node")}), how="left", on=[*PACKET, "node"])
     pairs["delivered"] = pairs["delivered_seconds"].notna()
     pairs["put"], pairs["sent"] = True, pairs["sent_frame"] >= 0
@@ -212,9 +222,8 @@ def deadline(
     never     those that were not delivered by the end of the run
     share     `in_time` as a part of `due`, 0 to 1; missing where none is due
 
-    Times are true time, or by plan where there is no log (see `latencies`). Latencies are from the start of the frame of the put, so a
-    real packet has up to a frame more time. Raises
-    `ArgumentError` where the deadline is not above 0, and what `delivery_ratio` raises.
+    Times are true time, or by plan where there is no log (see `latencies`), and a deadline counts from the time that was given for the
+    put. Raises `ArgumentError` where the deadline is not above 0, and what `delivery_ratio` raises.
     """
     keys = _keys(by, *_KEYS)
     seconds = arguments.real("seconds", seconds, above=0)
@@ -230,21 +239,21 @@ def deadline(
 
 @report_answer
 def latencies(log: Report, *, receivers: Receivers = None) -> pd.DataFrame:
-    """A row for each delivery at a node that the packet is meant for (`receivers`): the packet, the `node`, `put_seconds` (the
-    start of the frame of the put), `delivered_seconds` (when the node had received it, see `results.Log`), and `latency_seconds`,
-    the second less the first. A packet that came up within the frame of its put waited less, by up to a frame. Times are true time, in
-    seconds from the start of the run.
+    """A row for each delivery at a node that the packet is meant for (`receivers`): the packet, the `node`, `put_seconds` (the time
+    that was given for its put, as `packets` has it), `delivered_seconds` (when the node had received it, see `results.Log`), and
+    `latency_seconds`, the second less the first. Times are true time, in seconds from the start of the run.
 
-    A report without a log has `planned_seconds` and `planned_latency_seconds` in place of the last two: `planned_seconds` is the start
-    of the slot by plan, at most 56 ms before the node has the packet by a clock without drift."""
+    A report without a log has `planned_delivered_seconds` and `planned_latency_seconds` in place of the last two: by when the node had
+    received it at the latest, which is the end of its slot by plan and what the slowest clock of the scenario may lose (up to 0.41 s in
+    the longest runs), and this less `put_seconds`."""
     clock = "" if isinstance(log, Log) else "planned_"
-    came = "delivered_seconds" if isinstance(log, Log) else "planned_seconds"
-    got = log.deliveries.loc[meant(log.scenario, receivers).kept(log.deliveries), [*PACKET, "node", came]]
+    got = _received(log)
+    got = got.loc[meant(log.scenario, receivers).kept(got), [*PACKET, "node", "delivered_seconds"]]
     put = packets(log)
     put = put.loc[~put["keep_alive"], [*PACKET, "put_seconds"]]
     table = got.astype({name: "int64" for name in PACKET}).merge(put, on=PACKET)
-    table[f"{clock}latency_seconds"] = table[came] - table["put_seconds"]
-    return table
+    table[f"{clock}latency_seconds"] = table["delivered_seconds"] - table["put_seconds"]
+    return table.rename(columns={"delivered_seconds": f"{clock}delivered_seconds"})
 
 
 def waited(log: Report, receivers: Receivers = None) -> pd.Series:

@@ -121,7 +121,7 @@ def by_log(log: Log) -> pd.DataFrame:
 def puts(report: Report) -> pd.DataFrame:
     """A row for each `put` line, in the order in which they happen.
 
-    frame, put_seconds    its frame, and the start of that in seconds
+    frame, put_seconds    its frame, and the time that was given for it in seconds (`Scenario.put_seconds`)
     source, boot, stream  the node, which of its boots it was (0 if it had no power), and the stream
     number                the number that the packet got in its stream and boot; -1 if it was dropped
     payload               in hexadecimal digits, `-` for none
@@ -137,7 +137,7 @@ def puts(report: Report) -> pd.DataFrame:
     dropped = [("" if word != "dropped" else why or FULL_QUEUE) for word, why in zip(became, told.dropped)]
     cleared = [(why if word == "cleared" else "") for word, why in zip(became, told.cleared)]
     made = _of_script(told)
-    made["put_seconds"] = made["frame"] * float(report.scenario.frame_seconds)
+    made["put_seconds"] = pd.Series([report.scenario.put_seconds(put) for put in told.rows], dtype="float64")
     made["number"] = table["number"]
     made["payload"] = pd.Series([put.payload.hex() or "-" for put in told.rows], dtype="object")
     made["dropped"] = pd.Categorical(dropped, categories=["", OFF, NO_STREAM, FULL_QUEUE])

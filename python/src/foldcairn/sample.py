@@ -102,7 +102,7 @@ class Sample:
     def deadline(self, by: str = "stream") -> pd.DataFrame:
         """The part of what was put that was delivered within the deadline: `within_deadline`; `by` is as in `delivery_ratio`.
 
-        A latency is counted as in `latency`, so what comes by the deadline in the last round before it may count as late. A packet whose
+        A latency is counted as in `latency`, at most, so what comes by the deadline in the last round before it may count as late. A packet whose
         deadline lies after the end of the run counts as late too, unless it came: take a run that is long for the deadline.
         `planning.deadline` has both exactly, of one seed. Raises `ArgumentError` where no deadline was given."""
         if self.deadline_seconds is None:
@@ -113,8 +113,10 @@ class Sample:
         """The times from put to delivery in seconds: `latency_median` and `latency_p90`, which half and 90 % of the deliveries of a seed
         took at most. `by` is as in `delivery_ratio`; a seed without any delivery is left out.
 
-        The program counts in frames: a latency is the time from the start of the frame of the put to the end of the last data slot that
-        the round of the delivery may have. So it is up to 1.4 s (profile 1) or 2.3 s (profile 2) more than `planning.latency` has."""
+        The program counts in frames, from that in which a packet is handed over to that of its delivery, so a latency here is a bound, and
+        never below the real one. It counts from the earliest put of its stream within a frame to the end of the last data slot that the
+        round of the delivery may have, by the slowest clock. So it is up to 1.4 s (profile 1) or 2.3 s (profile 2) more than
+        `planning.latency` has where all puts are given as frames, and up to a frame more than that where they are given in seconds."""
         found = self._of(by)
         return self._told(self._table(by, {"latency_median": found["median"], "latency_p90": found["p90"]}))
 

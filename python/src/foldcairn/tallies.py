@@ -12,7 +12,7 @@ import numpy as np
 import pandas as pd
 from numpy.typing import NDArray
 
-from . import arguments, counts, lines, results, served
+from . import arguments, counts, lines, moments, results, served
 from .events import Put
 from .receivers import HOSTS, NO_HOST, Meant, Receivers, meant
 from .scenario import Scenario
@@ -79,10 +79,11 @@ def question(scenario: Scenario, receivers: Receivers, deadline: float | None) -
     return Question(scenario, functools.partial(_tally, receivers, deadline), about)
 
 
-def latency_seconds(profile: int, frames: Numbers) -> Numbers:
-    """The time from the start of a frame to the end of the last data slot that the round of the `frames`-th frame after it may have."""
-    slots = (1 + lines.DATA_SLOTS) * lines.slot_ticks(profile) / results.TICKS_A_SECOND
-    return frames * lines.frame_seconds(profile) + results.ROUND_SECONDS + slots
+def most_seconds(scenario: Scenario, frames: Places, early: Numbers) -> Numbers:
+    """The time from a put to a delivery in the `frames`-th frame after that in which it was handed over, at most: by then the last data slot
+    ends that the round of that frame may have, by plan and by the slowest clock, and the put was given `early` seconds before its frame."""
+    round_seconds = results.ROUND_SECONDS + (1 + lines.DATA_SLOTS) * lines.slot_ticks(scenario.profile) / results.TICKS_A_SECOND
+    return frames * float(scenario.frame_seconds) + round_seconds + moments.late_seconds(scenario) + early
 
 
 @dataclass(frozen=True)
@@ -189,33 +190,30 @@ def tally(found: counts.Counts, receivers: Receivers, deadline: float | None) ->
     """The answer to `question` of each seed of some counts."""
     scenario, seeds = found.scenario, found.seeds
     came = arrivals(scenario, receivers, seeds, found)
-    table, most = came.table, -1 if deadline is None else _frames_within(scenario.profile, deadline)
+    given = moments.early_seconds(scenario)
+    early = np.array([given.get(stream, 0.0) for stream in came.streams], dtype=np.float64)
+    table = came.table.assign(seconds=most_seconds(scenario, came.table["frames"].to_numpy(), early[came.table["group"].to_numpy()]))
     groups = {
         "stream": (table["group"], came.put.sum(axis=2)), "node": (table["at"], came.put.sum(axis=1)[:, :-1]),
         "all": (0 * table["group"], came.put.sum(axis=(1, 2))[:, None]),
     }  # fmt: skip
-    told = {by: _numbers(table, group.to_numpy(), put, most, scenario.profile) for by, (group, put) in groups.items()}
+    told = {by: _numbers(table, group.to_numpy(), put, deadline) for by, (group, put) in groups.items()}
     told["fates"] = found.puts[_FATES].to_numpy().reshape(len(seeds), -1, len(_FATES))
     told["cost"] = found.cost[_COST].to_numpy().reshape(len(seeds), -1, len(_COST))
     return [{name: part[place].tolist() for name, part in told.items()} for place in range(len(seeds))]
 
 
-def _frames_within(profile: int, deadline: float) -> int:
-    """The most frames of a latency within a deadline; -1 where none is."""
-    first = float(latency_seconds(profile, np.zeros(1))[0])
-    return max(-1, int((deadline - first + _LITTLE) // lines.frame_seconds(profile)))
-
-
-def _numbers(table: pd.DataFrame, group: Places, put: Numbers, most: int, profile: int) -> NDArray[Any]:
-    """The numbers of each seed and group, in the order of `_NUMBERS`: an array by seed, number and group."""
+def _numbers(table: pd.DataFrame, group: Places, put: Numbers, deadline: float | None) -> NDArray[Any]:
+    """The numbers of each seed and group, in the order of `_NUMBERS`: an array by seed, number and group. The table has `place`, that of the
+    seed, and the `seconds` and the `count` of deliveries."""
     seeds, groups = put.shape
-    width = int(table["frames"].max()) + 1 if len(table) else 1
-    place = (table["place"].to_numpy() * groups + group) * width + table["frames"].to_numpy()
-    counted = np.bincount(place, table["count"].to_numpy(), seeds * groups * width).reshape(seeds, groups, width)
-    by_then = counted.cumsum(axis=2)
-    delivered = by_then[..., -1]
-    in_time = by_then[..., min(most, width - 1)] if most >= 0 else np.zeros_like(delivered)
-    # The least latency that the part of all deliveries does not exceed.
-    reached = [(by_then < part * delivered[..., None] - _LITTLE).sum(axis=2) for part in (0.5, 0.9)]
-    times = [np.where(delivered > 0, latency_seconds(profile, frames.astype(np.float64)), np.nan) for frames in reached]
-    return np.stack([put, delivered, in_time, *times], axis=1)
+    cell = table["place"].to_numpy() * groups + group
+    order = np.lexsort((table["seconds"].to_numpy(), cell))
+    cell, seconds, count = cell[order], table["seconds"].to_numpy()[order], table["count"].to_numpy(dtype=np.float64)[order]
+    delivered = np.bincount(cell, count, seeds * groups)
+    in_time = np.bincount(cell, count * (seconds <= (-1.0 if deadline is None else deadline) + _LITTLE), seeds * groups)
+    # The least latency that the part of all deliveries does not exceed, among those of a cell, which follow each other.
+    by_then, before = count.cumsum(), delivered.cumsum() - delivered
+    reached = [np.searchsorted(by_then, before + part * delivered - _LITTLE) for part in (0.5, 0.9)]
+    times = [np.where(delivered > 0, np.append(seconds, np.nan)[np.minimum(place, len(seconds))], np.nan) for place in reached]
+    return np.stack([put, *(one.reshape(seeds, groups) for one in (delivered, in_time, *times))], axis=1)
