@@ -85,7 +85,7 @@ def test_answers_of_64_nodes_over_five_hours() -> None:
     assert (ratio["sent"] >= ratio["sent_while_on"]).all() and (ratio["sent_while_on"] >= ratio["delivered"]).all()
     assert planning.fates(report, "all")["puts"].tolist() == [sum(ratio["put"])]
     # Slots come every 60 s, and the search for the other host takes less than 36 of 5 s each.
-    assert planning.latency(report, "all")["max"][0] < 1_000
+    assert planning.latency(report, "all")["max_seconds"][0] < 1_000
     assert planning.deadline(report, 120, "all")["share"][0] > 0.8
     duty = planning.duty_cycle(report)
     assert len(duty) == 64 and duty["duty_cycle"].between(0, 0.1).all() and (planning.battery_life(report)["days"] > 0).all()

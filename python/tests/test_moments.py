@@ -173,7 +173,8 @@ def test_no_latency_is_below_the_real_one(first: int) -> None:
         early = np.array([moments.early_seconds(network).get(stream, 0.0) for stream in came.streams])
         bounds = tallies.most_seconds(network, came.table["frames"].to_numpy(), early[came.table["group"].to_numpy()])
         assert max(real.values()) <= bounds.max() < max(real.values()) + network.frame_seconds + 41 * 0.056
-        assert planning.sample(network, [seed], progress=False).runs["latency_median"][0] >= np.quantile(list(real.values()), 0.5, method="inverted_cdf")
+        median = planning.sample(network, [seed], progress=False).runs["latency_median_seconds"][0]
+        assert median >= np.quantile(list(real.values()), 0.5, method="inverted_cdf")
     assert met >= 15
 
 

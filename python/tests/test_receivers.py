@@ -79,7 +79,7 @@ def test_a_source_that_delivers_nothing_has_a_row() -> None:
     log = results.log(LINE.replace("pair 2 3\n", ""))
     assert planning.delivery_ratio(log)[["source", "put", "delivered"]].values.tolist() == [[3, 2, 0]]
     assert planning.latency(log)[["source", "deliveries"]].values.tolist() == [[3, 0]]
-    assert planning.latency(log, "all")["deliveries"].tolist() == [0] and planning.latency(log, "all")["max"].isna().all()
+    assert planning.latency(log, "all")["deliveries"].tolist() == [0] and planning.latency(log, "all")["max_seconds"].isna().all()
     # Also outside of the time that counts, and without any packet.
     assert planning.delivery_ratio(log_of(LINE), start_seconds=40)["put"].tolist() == [0]
     silent = results.log(LINE.replace("put 0 3 0 aa\n", ""))

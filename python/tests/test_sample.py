@@ -57,8 +57,8 @@ def test_the_worked_example_by_hand(worked: Sample) -> None:
     # 0 of 6 and 4 of 6 pairs; their standard error is half of their difference, and 12.7 of these are more than all there can be.
     assert whole.loc["ratio_of_put"].tolist() == pytest.approx([2, 1 / 3, 1 / 3, 0, 1, 0, 1 / 30, 1 / 3, 19 / 30, 2 / 3])
     # One second into the frame, then 41 slots of 33 ms: 3 frames of 4 s are 14.353 s, and 9 of them 38.353 s, too late for 30 s.
-    assert told(whole.loc[["latency_median", "latency_p90"]], "seeds", "mean") == [[1, pytest.approx(14.353)], [1, pytest.approx(38.353)]]
-    assert whole.loc[["latency_median", "latency_p90"], ["error", "low", "high"]].isna().all(axis=None)
+    assert told(whole.loc[["latency_median_seconds", "latency_p90_seconds"]], "seeds", "mean") == [[1, pytest.approx(14.353)], [1, pytest.approx(38.353)]]
+    assert whole.loc[["latency_median_seconds", "latency_p90_seconds"], ["error", "low", "high"]].isna().all(axis=None)
     assert whole.loc["within_deadline", "greatest"] == pytest.approx(1 / 3) and whole.loc["within_deadline", "mean"] == pytest.approx(1 / 6)
     # With seed 7 all three wait, with seed 8 all are sent.
     assert told(whole.loc[["dropped", "sent", "waiting", "cleared"]], "least", "greatest") == [[0, 0], [0, 1], [0, 1], [0, 0]]
@@ -76,7 +76,8 @@ def test_the_tables_of_streams_and_nodes_by_hand(worked: Sample) -> None:
     assert told(worked.delivery_ratio(), "source", "stream", "quantity", "mean") == [[3, 0, "ratio_of_put", pytest.approx(1 / 3)]]
     assert told(worked.delivery_ratio("node"), "node", "greatest") == [[1, pytest.approx(2 / 3)], [2, pytest.approx(2 / 3)]]
     assert told(worked.deadline("node"), "node", "mean") == [[1, pytest.approx(1 / 6)], [2, pytest.approx(1 / 6)]]
-    assert told(worked.latency("stream"), "quantity", "p50") == [["latency_median", pytest.approx(14.353)], ["latency_p90", pytest.approx(38.353)]]
+    waited = told(worked.latency("stream"), "quantity", "p50")
+    assert waited == [["latency_median_seconds", pytest.approx(14.353)], ["latency_p90_seconds", pytest.approx(38.353)]]
     assert told(worked.fates(), "quantity", "mean") == [["dropped", 0], ["sent", 0.5], ["waiting", 0.5], ["cleared", 0]]
     assert told(worked.fates("all"), "mean") == [[0], [0.5], [0.5], [0]]
     searched = worked.search().set_index(["node", "quantity"])
@@ -145,7 +146,7 @@ def test_each_seed_is_what_its_report_says(number: int, form: int, pool: Executo
     length = 1 + 41 * 0.033
     for place, one in enumerate(reports):
         waited = np.sort((planning.latencies(one, receivers=whom)[["put_seconds", "planned_delivered_seconds"]] // 4).diff(axis=1).iloc[:, 1].to_numpy())
-        for name, part in (("latency_median", 0.5), ("latency_p90", 0.9)):
+        for name, part in (("latency_median_seconds", 0.5), ("latency_p90_seconds", 0.9)):
             wanted = 4 * np.quantile(waited, part, method="inverted_cdf") + length if len(waited) else np.nan
             assert found.runs[name][place] == pytest.approx(wanted, nan_ok=True)
     assert found.runs["duty_cycle"].tolist() == pytest.approx([planning.summary(one)["duty_cycle"] for one in reports])
@@ -445,7 +446,7 @@ def test_a_sweep_of_samples() -> None:
         assert [row.deliveries, row.drops, row.sent_ticks] == [drawn[name] for name in ("deliveries", "drops", "sent_ticks")]
         # A radio is on for its windows and where it searches, at most.
         assert 0 < drawn["on_ticks"] <= row.window_ticks + row.scanned_frames * 4 * 64_000_000
-    names = ["ratio_of_put", "latency_median", "latency_p90", "waiting", "duty_cycle", "duty_cycle_in_rounds"]
+    names = ["ratio_of_put", "latency_median_seconds", "latency_p90_seconds", "waiting", "duty_cycle", "duty_cycle_in_rounds"]
     assert told[names].equals(found[names]) and found["ratio_of_put"].nunique() == 2
     with pytest.raises(ArgumentError, match="a summary is of one seed, and these are counts of 2"):
         planning.summary(counts.of(network, 1, 2))

@@ -265,10 +265,10 @@ def waited(log: Report, receivers: Receivers = None) -> pd.Series:
 @report_answer
 def latency(log: Report, by: str = "stream", *, receivers: Receivers = None, start_seconds: float = 0.0,
             end_seconds: float | None = None) -> pd.DataFrame:  # fmt: skip
-    """The time from put to delivery in seconds, by "stream", by receiving "node", or over "all": `deliveries` (their count),
-    `min`, `median`, `p90`, `p99` and `max`. Only packets that were put from `start_seconds` on and before `end_seconds` count.
-    A stream, or a receiver, that has no delivery is a row with 0 of them, and its times are missing. Times are true time, or by plan
-    where there is no log, as in `latencies`.
+    """The time from put to delivery, by "stream", by receiving "node", or over "all": `deliveries` (their count), `min_seconds`,
+    `median_seconds`, `p90_seconds`, `p99_seconds` and `max_seconds`. Only packets that were put from `start_seconds` on and before
+    `end_seconds` count. A stream, or a receiver, that has no delivery is a row with 0 of them, and its times are missing. Times are true
+    time, or where there is no log by plan and at least the real ones, as in `latencies`.
 
     It is the latency of what was delivered: `fates` says how many packets never came, `deadline` which part came in time, and
     `latencies` has each delivery. Raises what `delivery_ratio` raises.
@@ -278,8 +278,9 @@ def latency(log: Report, by: str = "stream", *, receivers: Receivers = None, sta
     table["latency"] = waited(log, receivers)
     grouped = table[table["inside"]].groupby(keys or (lambda _: "all"))["latency"]
     summary = grouped.agg(
-        deliveries="size", min="min", median="median", p90=lambda s: s.quantile(0.9), p99=lambda s: s.quantile(0.99), max="max"
-    )
+        deliveries="size", min_seconds="min", median_seconds="median", p90_seconds=lambda s: s.quantile(0.9),
+        p99_seconds=lambda s: s.quantile(0.99), max_seconds="max",
+    )  # fmt: skip
     whom = meant(log.scenario, receivers)
     rows = {
         "stream": stream_index(log.scenario),
