@@ -87,7 +87,8 @@ def test_the_lines_of_the_worked_network() -> None:
     table = results.fates(THREE, 8)
     assert table["frame"].tolist() == [0, 10, 20] and (table[["source", "stream", "boot"]] == [3, 0, 1]).all(axis=None)
     assert table["number"].tolist() == [0, 1, 2] and table["became"].tolist() == ["sent"] * 3
-    assert table[["sent_frame", "sent_slot", "deliveries"]].values.tolist() == [[9, 1, 2], [13, 1, 2], [21, 1, 0]]
+    assert table[["sent_frame", "rank", "sent_slot", "deliveries"]].values.tolist() == [[9, 0, 1, 2], [13, 0, 1, 2], [21, 0, 1, 0]]
+    assert table["host_delivered"].tolist() == [True, True, False]
     assert table["cleared_frame"].tolist() == [-1] * 3
     assert results.fates(THREE, 7)["became"].tolist() == ["waiting"] * 3
 
@@ -106,7 +107,7 @@ def test_lines_of_each_kind() -> None:
 
 
 @pytest.mark.parametrize(
-    "line", ["put 0 3 0 1 0 sent 9 1", "put 0 3 0 1 0 waiting 4", "put 0 3 0 1 0 lost", "put 0 3 x dropped", "put 0 3 0", "get 0 3 0 dropped"]
+    "line", ["put 0 3 0 1 0 sent 9 1 2", "put 0 3 0 1 0 waiting 4", "put 0 3 0 1 0 lost", "put 0 3 x dropped", "put 0 3 0", "get 0 3 0 dropped"]
 )
 def test_a_line_that_is_none(fake, line: str) -> None:
     said = fake(f"cat > /dev/null; echo {line}; echo put 0 3 0 dropped; echo put 0 3 0 dropped")
@@ -127,11 +128,9 @@ def test_a_report_without_a_log_has_the_same_packets_and_its_times_by_plan() -> 
         times = ["sent_seconds", "first_seconds", "last_seconds"]
         assert [name.replace("planned_", "") for name in without] == list(with_log)
         assert not set(times) & set(without)
-        same = [name for name in without if name in with_log.columns and name != "rank"]
+        same = [name for name in without if name in with_log.columns]
         pd.testing.assert_frame_equal(with_log[same], without[same])
-        # The channel is known of packets that were delivered. Starts of slots by plan; clocks are up to 4 ms and 20 ppm off.
-        known = without["deliveries"] > 0
-        assert without.loc[known, "rank"].equals(with_log.loc[known, "rank"]) and (without.loc[~known, "rank"] == -1).all()
+        # Starts of slots by plan; clocks are up to 4 ms and 20 ppm off.
         off = with_log["sent_seconds"] - without["planned_sent_seconds"]
         assert off.notna().sum() == (without["sent_frame"] >= 0).sum() > 0 and off.abs().max() < 0.012
         pd.testing.assert_frame_equal(planning.fates(log), planning.fates(report))
@@ -140,15 +139,16 @@ def test_a_report_without_a_log_has_the_same_packets_and_its_times_by_plan() -> 
 
 
 def test_plan_times_of_the_worked_failover() -> None:
-    """Slot 1 of the rounds in frames 9 and 31: 37.033 s and 125.033 s. Packets go on the air 1 ms later, if clocks are right."""
+    """Slot 1 of the rounds in frames 9 and 31: from 37.033 s and 125.033 s on, for 33 ms. Packets go on the air 1 ms later, if clocks are
+    right."""
     told = planning.packets(results.bus(FAILOVER))
     assert told["planned_sent_seconds"].tolist() == pytest.approx([37.033, 125.033])
     assert told["planned_first_seconds"].tolist() == told["planned_last_seconds"].tolist() == told["planned_sent_seconds"].tolist()
     assert told[["sent_frame", "sent_slot", "rank"]].values.tolist() == [[9, 1, 0], [31, 1, 1]]
     waited = planning.latencies(results.bus(FAILOVER))
     assert not {"delivered_seconds", "latency_seconds"} & set(waited)
-    assert waited["planned_latency_seconds"].tolist() == pytest.approx([37.033, 45.033])
-    assert (waited["planned_seconds"] - waited["put_seconds"]).tolist() == waited["planned_latency_seconds"].tolist()
+    assert waited["planned_delivered_seconds"].tolist() == pytest.approx([37.066, 125.066])
+    assert waited["planned_latency_seconds"].tolist() == pytest.approx([37.066, 45.066])
     assert plot.latency(waited).axes[0].get_ylabel() == "seconds from put to delivery, by plan"
     assert plot.latency(planning.latencies(log_of(FAILOVER))).axes[0].get_ylabel() == "seconds from put to delivery"
 

@@ -85,7 +85,7 @@ def test_answers_of_64_nodes_over_five_hours() -> None:
     assert (ratio["sent"] >= ratio["sent_while_on"]).all() and (ratio["sent_while_on"] >= ratio["delivered"]).all()
     assert planning.fates(report, "all")["puts"].tolist() == [sum(ratio["put"])]
     # Slots come every 60 s, and the search for the other host takes less than 36 of 5 s each.
-    assert planning.latency(report, "all")["max"][0] < 1_000
+    assert planning.latency(report, "all")["max_seconds"][0] < 1_000
     assert planning.deadline(report, 120, "all")["share"][0] > 0.8
     duty = planning.duty_cycle(report)
     assert len(duty) == 64 and duty["duty_cycle"].between(0, 0.1).all() and (planning.battery_life(report)["days"] > 0).all()
@@ -106,11 +106,12 @@ def test_answers_without_a_log_are_those_of_the_log(seed: int) -> None:
         for receivers in (None, "hosts", [2, 3]):
             with_log, without = (planning.delivery_ratio(one, by, receivers=receivers) for one in (log, report))
             pd.testing.assert_frame_equal(with_log, without)
-    # Times are by plan: starts of slots, with clocks up to 4 ms off, and less than a slot apart.
+    # Times are by plan: ends of slots with what the slowest clock may lose, and clocks are up to 4 ms ahead. So they are never too low, and
+    # by less than a slot and twice that too high.
     columns = ["node", "source", "boot", "stream", "number"]
     with_log = planning.latencies(log).set_index(columns)["latency_seconds"]
     without = planning.latencies(report).set_index(columns)["planned_latency_seconds"]
-    assert len(with_log) == len(without) > 0 and ((with_log - without.reindex(with_log.index)).abs() < 0.056).all()
+    assert len(with_log) == len(without) > 0 and (without.reindex(with_log.index) - with_log).between(0, 0.056 + 0.02 + 0.004).all()
     pd.testing.assert_frame_equal(planning.fates(report), planning.fates(log))
     # The cost by plan is no less than that of the log, and that of `run` is the same.
     spent, charged, exact = (planning.duty_cycle(one).set_index("node") for one in (log, report, run))

@@ -81,8 +81,8 @@ def test_latency_of_the_line(line: Log) -> None:
     for by in ("stream", "node", "all"):
         table = planning.latency(line, by)
         assert table["deliveries"].sum() == 2
-        assert table["min"].min() == pytest.approx(min(waited)) and table["max"].max() == pytest.approx(max(waited))
-        assert (table[["min", "median", "p90", "p99", "max"]].diff(axis=1).iloc[:, 1:] >= 0).all(axis=None)
+        assert table["min_seconds"].min() == pytest.approx(min(waited)) and table["max_seconds"].max() == pytest.approx(max(waited))
+        assert (table[[f"{name}_seconds" for name in ("min", "median", "p90", "p99", "max")]].diff(axis=1).iloc[:, 1:] >= 0).all(axis=None)
 
 
 def test_rounds_of_the_line(line: Log) -> None:
@@ -224,7 +224,7 @@ def test_streams_of_the_contenders(contenders: Log) -> None:
     assert third["first_slot_seconds"] == pytest.approx(69.165)
     assert (second["slots"], second["packets"], third["slots"], third["packets"]) == (8, 1, 4, 1)
     assert planning.hosts(contenders)["all_accepted_seconds"].tolist() == pytest.approx([53.199])
-    assert planning.latency(contenders)["median"].tolist() == pytest.approx([53.034 + ON_AIR + STEP / 2, 69.166 + ON_AIR + STEP / 2])
+    assert planning.latency(contenders)["median_seconds"].tolist() == pytest.approx([53.034 + ON_AIR + STEP / 2, 69.166 + ON_AIR + STEP / 2])
 
 
 def test_a_stream_that_is_never_accepted() -> None:
@@ -237,7 +237,7 @@ def test_a_stream_that_is_never_accepted() -> None:
     assert planning.packets(log)["fate"].tolist() == ["queued", "queued"]
     # A source that delivers nothing has a row.
     assert planning.latency(log)[["source", "deliveries"]].values.tolist() == [[2, 0], [3, 0]]
-    assert planning.latency(log)["median"].isna().all()
+    assert planning.latency(log)["median_seconds"].isna().all()
 
 
 def test_a_node_out_of_reach_never_joins() -> None:
@@ -326,7 +326,7 @@ def test_tables_has_every_answer(line: Log) -> None:
 
 def test_the_summary_of_a_run(failover: Log) -> None:
     expected = {
-        "ratio_of_put": 0.5, "ratio_of_sent_while_on": 1, "latency_median": (37.034 + 125.034 - 80) / 2 + ON_AIR, "hosts": 2,
+        "ratio_of_put": 0.5, "ratio_of_sent_while_on": 1, "latency_median_seconds": (37.034 + 125.034 - 80) / 2 + ON_AIR, "hosts": 2,
         "all_joined_seconds": 21.06764, "all_accepted_seconds": 21.067, "requests": 2, "request_success": 1, "outage_seconds": 88,
     }  # fmt: skip
     told = planning.summary(failover)

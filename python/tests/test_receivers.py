@@ -33,10 +33,14 @@ def test_whichever_host_serves(failover: Log) -> None:
     assert planning.summary(failover, receivers="hosts")["ratio_of_put"] == 0.5
 
 
-def test_a_packet_that_is_never_sent_is_meant_for_the_host_that_served_last() -> None:
-    # bb is put in the last frame, too late for a round; node 2 hosts by then.
+def test_a_packet_that_is_never_sent_is_not_delivered_and_in_no_row_of_a_node() -> None:
+    # bb is put in the last frame, too late for a round; node 2 hosts by then, and nothing is sent in its rounds.
     log = results.log(FAILOVER.replace("put 20 3 0 bb", "put 31 3 0 bb"))
-    assert ratios(log, "hosts", "node") == [[1, 1, 0, 0], [1, 0, 0, 0]]
+    assert ratios(log, "hosts", "node") == ratios(log, "hosts", "pair") == [[1, 1, 0, 0]]
+    assert ratios(log, "hosts") == ratios(log, "hosts", "stream") == [[2, 1, 0, 0]]
+    assert planning.deadline(log, 30, "all", receivers="hosts")[["due", "never"]].values.tolist() == [[1, 1]]
+    # A named receiver has all that is put.
+    assert ratios(log, 2, "node") == [[2, 1, 1, 1]]
 
 
 def test_a_host_has_its_own_packets_already() -> None:
@@ -75,7 +79,7 @@ def test_a_source_that_delivers_nothing_has_a_row() -> None:
     log = results.log(LINE.replace("pair 2 3\n", ""))
     assert planning.delivery_ratio(log)[["source", "put", "delivered"]].values.tolist() == [[3, 2, 0]]
     assert planning.latency(log)[["source", "deliveries"]].values.tolist() == [[3, 0]]
-    assert planning.latency(log, "all")["deliveries"].tolist() == [0] and planning.latency(log, "all")["max"].isna().all()
+    assert planning.latency(log, "all")["deliveries"].tolist() == [0] and planning.latency(log, "all")["max_seconds"].isna().all()
     # Also outside of the time that counts, and without any packet.
     assert planning.delivery_ratio(log_of(LINE), start_seconds=40)["put"].tolist() == [0]
     silent = results.log(LINE.replace("put 0 3 0 aa\n", ""))
@@ -93,6 +97,23 @@ def test_importance_of_what_arrives_at_the_host() -> None:
     assert (cut["ratio"], cut["ratio_cut"]) == pytest.approx((1, 2 / 3))
 
 
+def test_power_counts_in_the_frame_in_which_a_packet_is_sent() -> None:
+    """Node 3 sends in frame 9. A neighbour of the host goes off just then, or one frame later, or comes on just then."""
+    more = LINE + "node 4 0\npair 1 4\n"
+    assert ratios(results.log(more + "on 0 4\noff 9 4\n"), 4) == [[1, 1, 0, 0]]
+    assert ratios(results.log(more + "on 0 4\noff 10 4\n"), 4) == [[1, 1, 1, 1]]
+    assert ratios(results.log(more + "on 9 4\n"), 4) == [[1, 1, 1, 1]]
+
+
+def test_what_is_put_from_a_time_on_and_before_another(failover: Log) -> None:
+    # The packets are put at 0 and at 80 s.
+    for window, count in (((0, 80), 1), ((0, 80.001), 2), ((80, 128), 1), ((80.001, 128), 0), ((0, 128), 2)):
+        given = dict(zip(("start_seconds", "end_seconds"), window), receivers=2)
+        assert planning.delivery_ratio(failover, "all", **given)["put"].tolist() == [count]
+        assert planning.latency(failover, "all", **given)["deliveries"].tolist() == [count]
+        assert planning.deadline(failover, 48, "all", **given)["due"].tolist() == [count]
+
+
 # Deadlines.
 
 
@@ -102,7 +123,11 @@ def test_the_share_within_a_deadline(failover: Log) -> None:
         return planning.deadline(failover, seconds, receivers=whom)[["due", "in_time", "late", "never"]].values.tolist()
 
     assert told(37) == [[2, 0, 2, 0]] and told(38) == [[2, 1, 1, 0]] and told(46) == [[2, 2, 0, 0]]
-    # A deadline after the end of the run, at 128 s, tells nothing.
+    # Just at the deadline is in time, and a deadline just at the end of the run, at 128 s, is due.
+    first, second = sorted(planning.latencies(failover, receivers=2)["latency_seconds"])
+    assert told(first) == [[2, 1, 1, 0]] and told(second) == [[2, 2, 0, 0]] and told(48) == [[2, 2, 0, 0]]
+    assert told(np.nextafter(first, 0)) == [[2, 0, 2, 0]]
+    # One after the end of the run tells nothing.
     assert told(49) == [[1, 1, 0, 0]] and told(46, "hosts") == [[2, 1, 0, 1]]
     assert planning.deadline(failover, 46, receivers="hosts")["share"].tolist() == [0.5]
     assert planning.deadline(failover, 46, "all")["share"].tolist() == [0.5]

@@ -59,12 +59,12 @@ def test_the_worked_example_by_hand(worked: Sample) -> None:
     whole = worked.network().set_index("quantity")
     assert list(whole.columns) == ["packets", *SPREAD]
     # Three packets with each seed, and of other numbers there are none.
-    assert whole.loc[["ratio_of_put", "within_deadline", "waiting", "latency_median", "duty_cycle"], "packets"].tolist() == [6, 6, 6, 0, 0]
+    assert whole.loc[["ratio_of_put", "within_deadline", "waiting", "latency_median_seconds", "duty_cycle"], "packets"].tolist() == [6, 6, 6, 0, 0]
     # 0 of 6 and 4 of 6 pairs; their standard error is half of their difference, and 12.7 of these are more than all there can be.
     assert whole.loc["ratio_of_put", SPREAD].tolist() == pytest.approx([2, 1 / 3, 1 / 3, 0, 1, 0, 1 / 30, 1 / 3, 19 / 30, 2 / 3])
     # One second into the frame, then 41 slots of 33 ms: 3 frames of 4 s are 14.353 s, and 9 of them 38.353 s, too late for 30 s.
-    assert told(whole.loc[["latency_median", "latency_p90"]], "seeds", "mean") == [[1, pytest.approx(14.353)], [1, pytest.approx(38.353)]]
-    assert whole.loc[["latency_median", "latency_p90"], ["error", "low", "high"]].isna().all(axis=None)
+    assert told(whole.loc[["latency_median_seconds", "latency_p90_seconds"]], "seeds", "mean") == [[1, pytest.approx(14.353)], [1, pytest.approx(38.353)]]
+    assert whole.loc[["latency_median_seconds", "latency_p90_seconds"], ["error", "low", "high"]].isna().all(axis=None)
     assert whole.loc["within_deadline", "greatest"] == pytest.approx(1 / 3) and whole.loc["within_deadline", "mean"] == pytest.approx(1 / 6)
     # With both seeds none is dropped: of six packets that is no more than 45.9 %, by 0.025^(1/6).
     assert whole.loc["dropped", ["mean", "error", "low", "high"]].tolist() == pytest.approx([0, 0, 0, 1 - 0.025 ** (1 / 6)])
@@ -84,7 +84,8 @@ def test_the_tables_of_streams_and_nodes_by_hand(worked: Sample) -> None:
     assert told(worked.delivery_ratio(), "source", "stream", "quantity", "mean") == [[3, 0, "ratio_of_put", pytest.approx(1 / 3)]]
     assert told(worked.delivery_ratio("node"), "node", "greatest") == [[1, pytest.approx(2 / 3)], [2, pytest.approx(2 / 3)]]
     assert told(worked.deadline("node"), "node", "mean") == [[1, pytest.approx(1 / 6)], [2, pytest.approx(1 / 6)]]
-    assert told(worked.latency("stream"), "quantity", "p50") == [["latency_median", pytest.approx(14.353)], ["latency_p90", pytest.approx(38.353)]]
+    waited = told(worked.latency("stream"), "quantity", "p50")
+    assert waited == [["latency_median_seconds", pytest.approx(14.353)], ["latency_p90_seconds", pytest.approx(38.353)]]
     assert told(worked.fates(), "quantity", "mean") == [["dropped", 0], ["sent", 0.5], ["waiting", 0.5], ["cleared", 0]]
     assert told(worked.fates("all"), "mean") == [[0], [0.5], [0.5], [0]]
     searched = worked.search().set_index(["node", "quantity"])
@@ -198,8 +199,8 @@ def test_each_seed_is_what_its_report_says(number: int, form: int, pool: Executo
     # Latencies by the rounds of the reports: frames from the put to the delivery, and how long a round with all its slots is.
     length = 1 + 41 * 0.033
     for place, one in enumerate(reports):
-        waited = np.sort((planning.latencies(one, receivers=whom)[["put_seconds", "planned_seconds"]] // 4).diff(axis=1).iloc[:, 1].to_numpy())
-        for name, part in (("latency_median", 0.5), ("latency_p90", 0.9)):
+        waited = np.sort((planning.latencies(one, receivers=whom)[["put_seconds", "planned_delivered_seconds"]] // 4).diff(axis=1).iloc[:, 1].to_numpy())
+        for name, part in (("latency_median_seconds", 0.5), ("latency_p90_seconds", 0.9)):
             wanted = 4 * np.quantile(waited, part, method="inverted_cdf") + length if len(waited) else np.nan
             assert found.runs[name][place] == pytest.approx(wanted, nan_ok=True)
     assert found.runs["duty_cycle"].tolist() == pytest.approx([planning.summary(one)["duty_cycle"] for one in reports])
@@ -483,11 +484,18 @@ def test_words_that_make_no_sense(words: list[str], says: str, folder: Path, cap
 
 
 def test_tallies_of_ties() -> None:
-    # Of ten deliveries nine in 0 frames: 90 % took no longer, and the deadline lies below the first.
-    table = pd.DataFrame({"place": 0, "group": 0, "at": 0, "frames": [0, 7], "count": [9, 1]})
-    numbers = tallies._numbers(table, np.zeros(2, dtype="int64"), np.array([[20.0]]), tallies._frames_within(2, 1.0), 2)
-    assert numbers[0, :, 0].tolist() == pytest.approx([20, 10, 0, 1 + 41 * 0.056, 1 + 41 * 0.056])
-    assert [tallies._frames_within(1, seconds) for seconds in (2.3, 2.353, 6.352, 6.353, 30)] == [-1, 0, 0, 1, 6]
+    # Of ten deliveries nine took 3 s at most: 90 % took no longer, and half of them neither. The two groups and seeds are apart.
+    table = pd.DataFrame({"place": [0, 0, 1], "seconds": [38.0, 3.0, 7.0], "count": [1, 9, 4]})
+    group = np.array([0, 0, 1], dtype="int64")
+
+    def numbers(deadline: float | None) -> list[list[float]]:
+        return tallies._numbers(table, group, np.full((2, 2), 20.0), deadline).transpose(0, 2, 1).reshape(4, 5).tolist()
+
+    nothing = [20, 0, 0, pytest.approx(np.nan, nan_ok=True), pytest.approx(np.nan, nan_ok=True)]
+    assert numbers(None) == [[20, 10, 0, 3, 3], nothing, nothing, [20, 4, 0, 7, 7]]
+    # A delivery just at the deadline is in time.
+    assert [row[2] for row in numbers(3.0)] == [9, 0, 0, 0] and [row[2] for row in numbers(2.999)] == [0] * 4
+    assert [row[2] for row in numbers(38.0)] == [10, 0, 0, 4]
 
 
 # Sweeps.
@@ -506,7 +514,7 @@ def test_a_sweep_of_samples() -> None:
         assert [row.deliveries, row.drops, row.sent_ticks] == [drawn[name] for name in ("deliveries", "drops", "sent_ticks")]
         # A radio is on for its windows and where it searches, at most.
         assert 0 < drawn["on_ticks"] <= row.window_ticks + row.scanned_frames * 4 * 64_000_000
-    names = ["ratio_of_put", "latency_median", "latency_p90", "waiting", "duty_cycle", "duty_cycle_in_rounds"]
+    names = ["ratio_of_put", "latency_median_seconds", "latency_p90_seconds", "waiting", "duty_cycle", "duty_cycle_in_rounds"]
     assert told[names].equals(found[names]) and found["ratio_of_put"].nunique() == 2
     with pytest.raises(ArgumentError, match="a summary is of one seed, and these are counts of 2"):
         planning.summary(counts.of(network, 1, 2))

@@ -83,20 +83,21 @@ def test_each_line_by_its_method():
     assert made.text(warn=False).splitlines() == [
         "profile 2", "contend 2", "frames 12", "sends 3", "node 2 0", "node 7 500", "node 9 0", "rate 2 160000000 20", "rate 7 0 -3",
         "host 0 7", "host 1 2", "link 2 9", "link 7 2", "link 9 2", "on 0 2", "on 0 7", "on 0 9", "stream 0 9 3 12", "put 0 9 3 ab",
-        "put 2 9 0 -", "off 3 9", "on 4 9", "leave 11 9 3", "lose 2 0 1 7 2", "cut 5 1 0 9", "capture 4 45 11 2 9",
+        "put 2 9 0 -", "off 3 9", "on 5 9", "leave 11 9 3", "lose 2 0 1 7 2", "cut 5 1 0 9", "capture 4 45 11 2 9",
     ]  # fmt: skip
     program.execute(["run"], made.text(warn=False))
     assert made.rates == [Rate(7, 0, -3), Rate(2, 160_000_000, 20)]
     assert made.script[3:] == [
-        Off(3, 9), On(4, 9), Stream(0, 9, 3, 12), Put(0, 9, 3, b"\xab"), Put(2, 9, 0, b""), Leave(11, 9, 3)
+        Off(3, 9), On(5, 9), Stream(0, 9, 3, 12), Put(0, 9, 3, b"\xab"), Put(2, 9, 0, b""), Leave(11, 9, 3)
     ]  # fmt: skip
     assert (made.losses, made.cuts, made.captures) == ([Loss(2, 0, 1, 7, 2)], [Cut(5, 1, 0, 9)], [Capture(4, 45, 11, 2, 9)])
 
 
 def test_periodic_packets():
     made = two(10).on().every(9, 2, start=3.5, until=30, interval=7)
-    assert made.script[2:] == [Stream(0, 2, 0, 7), Put(0, 2, 0, b"\2\0\0"), Put(3, 2, 0, b"\2\0\1"), Put(5, 2, 0, b"\2\0\2")]
-    puts = [event.payload for event in two(3).every(5, 1, lambda number: bytes([number] * number)).script]
+    # At 3.5, 12.5 and 21.5 s, each handed over in the first frame that starts then or later.
+    assert made.script[2:] == [Stream(1, 2, 0, 7), Put(1, 2, 0, b"\2\0\0"), Put(4, 2, 0, b"\2\0\1"), Put(6, 2, 0, b"\2\0\2")]
+    puts = [event.payload for event in two(4).every(5, 1, lambda number: bytes([number] * number)).script]
     assert puts == [b"", b"\1", b"\2\2"]
     assert [event.frame for event in two(4).every(4, 2, until=1000).script] == [0, 1, 2, 3]
     assert [event.frame for event in two(4, profile=2).every(5, 1, b"x", stream=2).script] == [0, 1, 2, 3]
@@ -123,7 +124,11 @@ def test_lengths_in_seconds():
         (lambda: two().link(1, 2, prr=1.1), "`link 1 2`: `prr` is 1.1, and has to be a number from 0 to 1"),
         (lambda: two().host(0, 2), "rank 0 or node 2 hosts already"),
         (lambda: two().on(1, frame=20), "20, the frame, is from 0 to 19"),
-        (lambda: two().on(1, seconds=80), "20, the frame, is from 0 to 19"),
+        (lambda: two().on(1, seconds=80), "`on` at 80 s: the run ends at 80 s, and its last frame starts at 76 s"),
+        (lambda: two().put(1, seconds=76.1), "`put` at 76.1 s: the run ends at 80 s, and its last frame starts at 76 s"),
+        (lambda: two().off(1, seconds=99999), "`off` at 99999 s: the run ends at 80 s, and its last frame starts at 76 s"),
+        (lambda: two().stream(1, 4, seconds=-4), "`stream` at -4 s: times are from 0 s on"),
+        (lambda: two().ratio(1, 2, 0.5, seconds=80), "`ratio` at 80 s: the run ends at 80 s"),
         (lambda: two().on(1, frame=1, seconds=4), "a time is given as a frame or in seconds"),
         (lambda: two().rate(1, 3, tick=1, seconds=4), "a time is given as a tick or in seconds"),
         (lambda: two().stream(2, 0), "the interval, is from 1 to 120 seconds"),
@@ -240,7 +245,7 @@ def test_nothing_to_warn_of():
         (lambda: two().on().stream(2, 4).leave(2, frame=3).put(2, frame=3), "are dropped: 1 of stream 0 of node 2"),
         (lambda: two().node(3).pair(3, 2).on().lose(0, 0, 0, 3, 1), "losses are given on links that the scenario doesn't have: 3 to 1"),
         (lambda: two().node(3).pair(3, 2).on().capture(0, 0, 0, 1, 3), "captures are given on links that the scenario doesn't have: 3 to 1"),
-        (lambda: two().on().every(10, 2, interval=10), "interval about 15 % shorter: stream 0 of node 2 (every 9.7 s, interval 10: 8)"),
+        (lambda: two().on().every(10, 2, interval=10), "interval about 15 % shorter: stream 0 of node 2 (every 10.0 s, interval 10: 8)"),
     ],
 )  # fmt: skip
 def test_what_is_hardly_meant_is_warned_of(made, says):

@@ -3,13 +3,14 @@
 from __future__ import annotations
 
 import math
+from dataclasses import replace
 
 import numpy as np
 import pandas as pd
 import pytest
 from networks import FAILOVER, LINE, log_of
 
-from foldcairn import capacity, losses, planning, results
+from foldcairn import capacity, losses, planning, results, service
 from foldcairn.arguments import ArgumentError
 from foldcairn.scenario import On, Scenario
 
@@ -39,6 +40,28 @@ def test_a_host_that_goes_silent_with_power() -> None:
     """Node 2 is cut off from node 1 for good, and never hosts itself: the only host is switched off."""
     log = results.log(LINE.replace("frames 12", "frames 30") + "off 20 1\n")
     assert planning.outages(log)[["from_host", "to_host", "off_seconds"]].values.tolist() == [[1, -1, 80]]
+
+
+def test_a_host_that_loses_power_twice_is_counted_from_the_last_time() -> None:
+    """Node 1 goes off at 24 s, is back and serves from 49 s to 65 s, and goes off at 80 s for good; node 2 takes over at 153 s."""
+    log = results.log(FAILOVER.replace("frames 32", "frames 60").replace("off 6 1\n", "off 6 1\non 7 1\noff 20 1\n"))
+    table = planning.outages(log)
+    assert table[["from_host", "to_host", "off_seconds"]].values.tolist() == [[1, 1, 24], [1, 2, 80]]
+    assert table["since_off_seconds"][1] == table["first_delivery_seconds"][1] - 80
+    # Where nobody takes over, the network is without a host from then on.
+    alone = results.log(LINE.replace("frames 12", "frames 40") + "off 8 1\non 9 1\noff 20 1\n")
+    assert service.no_host_from(alone) == 80
+
+
+def test_a_host_whose_last_closing_is_not_in_the_log() -> None:
+    """The worked line has rounds in frames 5 and 9, and the next one would be due after the run. Where the log lacks the closing of the last,
+    nobody knows when the next is due, so it is missed from the next frame on."""
+    log = log_of(LINE)
+    assert np.isnan(service.no_host_from(log))
+    lost = (log.transmissions["kind"] == "closing") & (log.transmissions["start_seconds"] > 36)
+    without = replace(log, transmissions=log.transmissions[~lost])
+    assert planning.rounds(without)[["frame", "acknowledgements", "gap"]].values.tolist() == [[5, 1, 4], [9, 0, -1]]
+    assert service.no_host_from(without) == 40
 
 
 @pytest.mark.parametrize(

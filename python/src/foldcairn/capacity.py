@@ -190,7 +190,7 @@ def _counts(receivers: Receivers, start: float, report: runs.Report) -> pd.DataF
     whom = _for_all(receivers if receivers is not None else report.scenario.receivers)
     table = delivery.delivery_ratio(report, receivers=whom, start_seconds=start)[["source", "stream", "put"]]
     came = delivery.latencies(report, receivers=whom)
-    came = came[came["planned_seconds"] >= start].groupby(["source", "stream"]).size().rename("delivered")
+    came = came[came["planned_delivered_seconds"] >= start].groupby(["source", "stream"]).size().rename("delivered")
     packets = delivery.packets(report)
     packets = packets[packets["put_seconds"] >= start].groupby(["source", "stream"]).size().rename("packets")
     table = table.join(came, on=["source", "stream"]).join(packets, on=["source", "stream"]).fillna(0)

@@ -231,7 +231,8 @@ class _Streams:
 
     def __init__(self, scenario: Scenario, script: list[ScriptLine]) -> None:
         self.scenario = scenario
-        self.puts: dict[tuple[int, int], list[int]] = defaultdict(list)
+        # When they come, in seconds.
+        self.puts: dict[tuple[int, int], list[float]] = defaultdict(list)
         self.intervals: dict[tuple[int, int], int] = {}
         self.due: dict[int, int] = {}
         self.without: Counter[tuple[int, int]] = Counter()
@@ -262,7 +263,7 @@ class _Streams:
                     if not payload and (node, stream) in self.scenario.keep_alive and (node, stream) not in requested:
                         continue
                     if (node, stream) in requested:
-                        self.puts[node, stream].append(frame)
+                        self.puts[node, stream].append(self.scenario.put_seconds(event))
                         self.due.setdefault(node, max(frame, _FIRST_ROUND))
                     else:
                         self.without[node, stream] += 1
@@ -339,9 +340,9 @@ class _Streams:
     def taken_away(self) -> Iterator[str]:
         """Sporadic streams, which their host takes away between two packets."""
         found = []
-        for (node, stream), frames in sorted(self.puts.items()):
+        for (node, stream), times in sorted(self.puts.items()):
             limit = lines.EMPTY_SLOTS * max(self.intervals[node, stream], 1)
-            pauses = [(later - one) * self.scenario.frame_seconds for one, later in zip(frames, frames[1:])]
+            pauses = [later - one for one, later in zip(times, times[1:])]
             if max(pauses, default=0) > limit:
                 found.append(f"{self._name(node, stream)} after {limit} s (its pauses are up to {max(pauses):,.0f} s)")
         if found:
@@ -353,12 +354,12 @@ class _Streams:
 
     def no_slack(self) -> Iterator[str]:
         tight = []
-        for (node, stream), frames in sorted(self.puts.items()):
-            if len(frames) < _PUTS_LEAST or frames[-1] == frames[0]:
+        for (node, stream), times in sorted(self.puts.items()):
+            if len(times) < _PUTS_LEAST or times[-1] == times[0]:
                 continue
-            spacing = (frames[-1] - frames[0]) * self.scenario.frame_seconds / (len(frames) - 1)
-            # Puts are known to a frame, so it may be that much longer.
-            longest = spacing + self.scenario.frame_seconds / (len(frames) - 1)
+            spacing = (times[-1] - times[0]) / (len(times) - 1)
+            # Puts of a text are known to a frame, so it may be that much longer.
+            longest = spacing + self.scenario.frame_seconds / (len(times) - 1)
             interval = self.intervals[node, stream]
             if interval > longest / _SLACK_LEAST:
                 better = max(1, int(spacing / _SLACK))

@@ -6,7 +6,7 @@ one word are read by pandas, or word by word where they are few. Tested, not pro
 
 from __future__ import annotations
 
-from collections.abc import Collection, Mapping
+from collections.abc import Collection, Mapping, Sequence
 from io import BytesIO
 from typing import BinaryIO
 
@@ -23,7 +23,7 @@ _BLOCK_BYTES = 1 << 24
 _LINE_FEED, _SPACE = 10, 32
 # Up to so many bytes it takes pandas longer to begin than to read them word by word.
 _FEW_BYTES = 1 << 13
-# So many bytes of a line tell which word it begins with.
+# So many bytes of a line tell which word it begins with, where no two words have the same ones.
 _HEAD_BYTES = 3
 # The place of a word that is none of a table's.
 _OTHER = 255
@@ -38,7 +38,7 @@ def read(source: BinaryIO, lines: Mapping[str, Columns], skipped: Collection[str
 
     Lines whose first word is in `skipped` are passed over.
 
-    The first words differ in their first three bytes. Raises `UnknownLine` for a line with another first word, too few or
+    Raises `UnknownLine` for a line with another first word, too few or
     other words, and `CutOutput` where the last line has no line feed.
     """
     parts: dict[str, list[pd.DataFrame]] = {word: [] for word in lines}
@@ -59,14 +59,15 @@ def _read_block(
 ) -> None:
     ends = np.flatnonzero(block == _LINE_FEED) + 1
     starts = np.insert(ends[:-1], 0, 0)
-    heads = np.zeros(len(starts), np.uint32)
-    for place in range(_HEAD_BYTES):
-        heads = heads << 8 | block[np.minimum(starts + place, len(block) - 1)]
+    size = _head_bytes((*lines, *skipped))
+    heads = np.zeros(len(starts), np.uint32 if size <= 4 else np.uint64)
+    for place in range(size):
+        heads = heads << heads.dtype.type(8) | block[np.minimum(starts + place, len(block) - 1)]
     # The place of each line's first word among `lines`, from 1 on; 0 where it is in `skipped`.
     words = np.full(len(starts), _OTHER, np.uint8)
-    words[np.isin(heads, [_head(word) for word in skipped])] = 0
+    words[np.isin(heads, [_head(word, size) for word in skipped])] = 0
     for place, word in enumerate(lines, 1):
-        words[heads == _head(word)] = place
+        words[heads == _head(word, size)] = place
     if (words == _OTHER).any():
         line = int(np.argmax(words == _OTHER))
         raise UnknownLine(f"unknown line {block[starts[line] : ends[line] - 1].tobytes()!r}")
@@ -88,8 +89,17 @@ def _of_bytes(words: NDArray[np.uint8], starts: NDArray[np.int64], size: int) ->
     return np.cumsum(each, dtype=np.uint8, out=each)
 
 
-def _head(word: str) -> int:
-    return int.from_bytes(word.encode()[:_HEAD_BYTES], "big")
+def _head_bytes(words: Sequence[str]) -> int:
+    """How many of the first bytes of a line tell these words apart, each with the space after it."""
+    size = _HEAD_BYTES
+    while len({f"{word} "[:size] for word in words}) < len(set(words)):
+        size += 1
+    return size
+
+
+def _head(word: str, size: int) -> int:
+    """The first bytes of a line of this word. The words of one kind of output are long enough to have them, with the space."""
+    return int.from_bytes(f"{word} ".encode()[:size], "big")
 
 
 def _read_lines(text: bytes, word: str, columns: Columns) -> pd.DataFrame:

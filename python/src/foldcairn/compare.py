@@ -26,8 +26,8 @@ from .scenario import Scenario
 _ANSWERS: tuple[tuple[str, str, bool, float, str], ...] = (
     ("ratio_of_put", "of what was put was delivered at {whom}", True, 100, "%"),
     ("ratio_of_sent_while_on", "of what was sent while the receiver had power was delivered", True, 100, "%"),
-    ("latency_median", "median latency", False, 1, "s"),
-    ("latency_p90", "90 % are delivered within", False, 1, "s"),
+    ("latency_median_seconds", "median latency", False, 1, "s"),
+    ("latency_p90_seconds", "90 % are delivered within", False, 1, "s"),
     ("all_joined_seconds", "all nodes had joined after the first start", False, 1, "s"),
     ("all_accepted_seconds", "all streams were accepted after the first start", False, 1, "s"),
     ("request_success", "of the requests were acknowledged", True, 100, "%"),
@@ -169,7 +169,7 @@ def _samples(
     results: str | os.PathLike[str] | None, progress: bool | TextIO,
 ) -> pd.DataFrame:  # fmt: skip
     """The same numbers as far as samples have them."""
-    names = ("ratio_of_put", "latency_median", "latency_p90", "duty_cycle", "duty_cycle_in_rounds")
+    names = ("ratio_of_put", "latency_median_seconds", "latency_p90_seconds", "duty_cycle", "duty_cycle_in_rounds")
     asked = [tallies.question(network, receivers, None) for network in plans.values()]
     told = many.answers(asked, seeds, executor=executor, results=results, progress=progress)
     found = [sample.of(network, seeds, receivers, None, answers).runs for network, answers in zip(plans.values(), told)]

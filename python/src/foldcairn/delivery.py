@@ -3,7 +3,8 @@
 What became of each packet is the answer of the planner's program (`foldcairn.fates`), which is proved; a log adds the times. Each
 answer takes a `results.Log`, or a report without a log, as `results.outcome` gives it for runs of hours. All times are seconds from
 the start of the run, or spans of it. Those of a log are true time. A report without a log has no true times of packets: the columns
-of its times begin with `planned_`, and are those of the starts of slots by plan. This module is tested, not proved.
+of its times begin with `planned_`, and are by plan. A latency counts from the time that was given for the put (`foldcairn.moments`);
+with a log it is exact, without one it is at least the real one. This module is tested, not proved.
 """
 
 from __future__ import annotations
@@ -11,9 +12,9 @@ from __future__ import annotations
 import numpy as np
 import pandas as pd
 
-from . import arguments, doubts, fates as _fates, power
+from . import arguments, doubts, fates as _fates, moments, power
 from .answers import report_answer
-from .receivers import Meant, Receivers, meant, of_streams, stream_index
+from .receivers import NO_HOST, Meant, Receivers, meant, of_streams, stream_index
 from .results import PACKET, Log, Report, slot_seconds
 
 FATES = (
@@ -26,15 +27,16 @@ FATES = (
 def packets(log: Report) -> pd.DataFrame:
     """Where each packet went: a row for each put, in the order in which they happen.
 
-    frame, put_seconds    the frame of the put, and its start in seconds
+    frame, put_seconds    the frame at whose start the packet was handed over, and when it was put, in seconds: at most a frame before
     source, stream        the node and stream that it was put to
     boot, number          the boot of the node (0 without power) and the packet's number in it, -1 if it was dropped
     payload               in hexadecimal digits, `-` for none
     keep_alive            whether it is one of `Scenario.stream(.., keep_alive=..)`, which no answer counts
     sent_frame, sent_slot  in which frame and data slot its node transmitted it first; -1 if it never did
     sent_seconds          when that was, in seconds of true time; missing if it never was
-    rank                  the channel on which it did, by the rank of its host; -1 if it never did
+    rank                  the rank of that round, which tells its host and its channel; -1 if it never did
     deliveries            how many nodes delivered it
+    host_delivered        whether the host of this rank is one of them; never where that is the source
     first_seconds, last_seconds   when the first and the last of them had received it, as `results.Log` has it
     fate                  "delivered" (by at least one node); "delivered by none" (it was sent); "queued" (it waits at the end
                           of the run); "lost with its node" (power went off while it waited); "withdrawn" (its stream was
@@ -42,17 +44,18 @@ def packets(log: Report) -> pd.DataFrame:
     cleared_frame         in which frame it was lost with its node or withdrawn; -1 if it was not
 
     A report without a log has no true times. In place of `sent_seconds`, `first_seconds` and `last_seconds` it has
-    `planned_sent_seconds`, `planned_first_seconds` and `planned_last_seconds`, all three the start of its slot by plan; its `rank` is
-    -1 also of packets that were sent and delivered by none. Raises what `foldcairn.fates.of` raises.
+    `planned_sent_seconds`, `planned_first_seconds` and `planned_last_seconds`, all three the start of its slot by plan. Raises what
+    `foldcairn.fates.of` raises.
     """
     table = _fates.puts(log)
     table["keep_alive"] = of_streams(table, log.scenario.keep_alive) & (table["payload"] == "-")
     sent, first, last = _times(log)
     came = _arrivals(log).groupby(PACKET)["delivered_seconds"].agg(**{first: "min", last: "max"}).reset_index()
-    table = _joined(_joined(table, _sent(log)), came)
-    if not isinstance(log, Log):
+    table = _joined(table, came)
+    if isinstance(log, Log):
+        table = _joined(table, _sent(log))
+    else:
         table[sent] = slot_seconds(log.scenario.profile, table["sent_frame"], table["sent_slot"]).where(table["sent_frame"] >= 0)
-    table["rank"] = table["rank"].fillna(-1).astype("int64")
     became = table["became"].astype(str)
     fate = np.select(
         [became == "dropped", table["deliveries"] > 0, became == "sent", became == "cleared"],
@@ -60,7 +63,7 @@ def packets(log: Report) -> pd.DataFrame:
         "queued",
     )
     table["fate"] = pd.Categorical(fate, categories=FATES)
-    told = ["sent_frame", "sent_slot", sent, "rank", "deliveries", first, last, "fate", "cleared_frame"]
+    told = ["sent_frame", "sent_slot", sent, "rank", "deliveries", "host_delivered", first, last, "fate", "cleared_frame"]
     return table[["frame", "put_seconds", "source", "boot", "stream", "number", "payload", "keep_alive", *told]]
 
 
@@ -70,17 +73,24 @@ def _times(log: Report) -> tuple[str, str, str]:
     return f"{clock}sent_seconds", f"{clock}first_seconds", f"{clock}last_seconds"
 
 
-def _sent(log: Report) -> pd.DataFrame:
-    """On which channel each packet was sent first, and when by true time; without a log, of those that were delivered, and no time."""
-    if isinstance(log, Log):
-        data = log.initiations[log.initiations["kind"] == "data"]
-        return data.rename(columns={"origin": "source", "start_seconds": "sent_seconds"})[[*PACKET, "sent_seconds", "rank"]]
-    return log.deliveries.drop_duplicates(PACKET)[[*PACKET, "rank"]]
+def _sent(log: Log) -> pd.DataFrame:
+    """When each packet was sent first, by true time."""
+    data = log.initiations[log.initiations["kind"] == "data"]
+    return data.rename(columns={"origin": "source", "start_seconds": "sent_seconds"})[[*PACKET, "sent_seconds"]]
 
 
 def _arrivals(log: Report) -> pd.DataFrame:
     """The deliveries with `delivered_seconds`, which is by plan where there is no log."""
     return log.deliveries if isinstance(log, Log) else log.deliveries.rename(columns={"planned_seconds": "delivered_seconds"})
+
+
+def _received(log: Report) -> pd.DataFrame:
+    """The deliveries with `delivered_seconds`: when the node had received the packet, or by when at the latest where there is no log."""
+    if isinstance(log, Log):
+        return log.deliveries
+    # The slot ends by plan where the next one starts.
+    ends = slot_seconds(log.scenario.profile, log.deliveries["frame"], log.deliveries["slot"] + 1)
+    return log.deliveries.assign(delivered_seconds=ends + moments.late_seconds(log.scenario))
 
 
 def _joined(table: pd.DataFrame, other: pd.DataFrame) -> pd.DataFrame:
@@ -126,8 +136,9 @@ def delivery_ratio(
 
     `by` is "stream" (a row for each source and stream that is requested or gets packets), "node" (a row for each receiving node),
     "pair" (a row for each source, stream and receiving node) or "all" (one row). `receivers` says for whom packets are meant, in
-    the forms of `foldcairn.receivers`: "hosts" is whichever host serves. Only packets that were put from `start_seconds` on and
-    before `end_seconds` (the end of the run) count: both are true time, in seconds from the start of the run.
+    the forms of `foldcairn.receivers`: "hosts" is whichever host serves, so a packet that was never sent is in no row of a node.
+    Only packets that were put from `start_seconds` on and before `end_seconds` (the end of the run) count: both are true time, in
+    seconds from the start of the run.
 
     All counts are of pairs of a packet and a receiver of it.
     put, sent          the packets that were put, and those of them that their node transmitted
@@ -149,6 +160,8 @@ def delivery_ratio(
 
 def _summed(log: Report, pairs: pd.DataFrame, by: str, keys: list[str], counts: list[str]) -> pd.DataFrame:
     """The sums of these columns, which are truths, over pairs that are `inside`: a row for each group, also where it is 0."""
+    if "node" in keys:
+        pairs = pairs[pairs["node"] != NO_HOST]
     # As numbers: for truths in large tables pandas warns of the product.
     values = pairs[counts].astype("int64").mul(pairs["inside"].astype("int64"), axis=0)
     if not keys:
@@ -177,10 +190,10 @@ def _pairs(log: Report, receivers: Receivers) -> pd.DataFrame:
 
 
 def _worked_out(log: Report, whom: Meant) -> pd.DataFrame:
-    table = packets(log).rename(columns={_times(log)[0]: "sent_seconds"})
-    table = table.loc[~table["keep_alive"], [*PACKET, "put_seconds", "sent_frame", "sent_seconds", "rank"]]
-    pairs = whom.pairs(log, table.reset_index(drop=True))
-    got = _arrivals(log)[[*PACKET, "node", "delivered_seconds"]]
+    table = packets(log)
+    table = table.loc[~table["keep_alive"], [*PACKET, "put_seconds", "sent_frame", "rank"]]
+    pairs = whom.pairs(table.reset_index(drop=True))
+    got = _received(log)[[*PACKET, "node", "delivered_seconds"]]
     pairs = pairs.merge(got.astype({name: "int64" for name in (*PACKET, "node")}), how="left", on=[*PACKET, "node"])
     pairs["delivered"] = pairs["delivered_seconds"].notna()
     pairs["put"], pairs["sent"] = True, pairs["sent_frame"] >= 0
@@ -211,9 +224,8 @@ def deadline(
     never     those that were not delivered by the end of the run
     share     `in_time` as a part of `due`, 0 to 1; missing where none is due
 
-    Times are true time, or by plan where there is no log (see `latencies`). Latencies are from the start of the frame of the put, so a
-    real packet has up to a frame more time. Raises
-    `ArgumentError` where the deadline is not above 0, and what `delivery_ratio` raises.
+    Times are true time, or by plan where there is no log (see `latencies`), and a deadline counts from the time that was given for the
+    put. Raises `ArgumentError` where the deadline is not above 0, and what `delivery_ratio` raises.
     """
     keys = _keys(by, *_KEYS)
     seconds = arguments.real("seconds", seconds, above=0)
@@ -230,21 +242,21 @@ def deadline(
 
 @report_answer
 def latencies(log: Report, *, receivers: Receivers = None) -> pd.DataFrame:
-    """A row for each delivery at a node that the packet is meant for (`receivers`): the packet, the `node`, `put_seconds` (the
-    start of the frame of the put), `delivered_seconds` (when the node had received it, see `results.Log`), and `latency_seconds`,
-    the second less the first. A packet that came up within the frame of its put waited less, by up to a frame. Times are true time, in
-    seconds from the start of the run.
+    """A row for each delivery at a node that the packet is meant for (`receivers`): the packet, the `node`, `put_seconds` (the time
+    that was given for its put, as `packets` has it), `delivered_seconds` (when the node had received it, see `results.Log`), and
+    `latency_seconds`, the second less the first. Times are true time, in seconds from the start of the run.
 
-    A report without a log has `planned_seconds` and `planned_latency_seconds` in place of the last two: `planned_seconds` is the start
-    of the slot by plan, at most 56 ms before the node has the packet by a clock without drift."""
+    A report without a log has `planned_delivered_seconds` and `planned_latency_seconds` in place of the last two: by when the node had
+    received it at the latest, which is the end of its slot by plan and what the slowest clock of the scenario may lose (up to 0.41 s in
+    the longest runs), and this less `put_seconds`."""
     clock = "" if isinstance(log, Log) else "planned_"
-    came = "delivered_seconds" if isinstance(log, Log) else "planned_seconds"
-    got = log.deliveries.loc[meant(log.scenario, receivers).kept(log.deliveries), [*PACKET, "node", came]]
+    got = _received(log)
+    got = got.loc[meant(log.scenario, receivers).kept(got), [*PACKET, "node", "delivered_seconds"]]
     put = packets(log)
     put = put.loc[~put["keep_alive"], [*PACKET, "put_seconds"]]
     table = got.astype({name: "int64" for name in PACKET}).merge(put, on=PACKET)
-    table[f"{clock}latency_seconds"] = table[came] - table["put_seconds"]
-    return table
+    table[f"{clock}latency_seconds"] = table["delivered_seconds"] - table["put_seconds"]
+    return table.rename(columns={"delivered_seconds": f"{clock}delivered_seconds"})
 
 
 def waited(log: Report, receivers: Receivers = None) -> pd.Series:
@@ -256,10 +268,10 @@ def waited(log: Report, receivers: Receivers = None) -> pd.Series:
 @report_answer
 def latency(log: Report, by: str = "stream", *, receivers: Receivers = None, start_seconds: float = 0.0,
             end_seconds: float | None = None) -> pd.DataFrame:  # fmt: skip
-    """The time from put to delivery in seconds, by "stream", by receiving "node", or over "all": `deliveries` (their count),
-    `min`, `median`, `p90`, `p99` and `max`. Only packets that were put from `start_seconds` on and before `end_seconds` count.
-    A stream, or a receiver, that has no delivery is a row with 0 of them, and its times are missing. Times are true time, or by plan
-    where there is no log, as in `latencies`.
+    """The time from put to delivery, by "stream", by receiving "node", or over "all": `deliveries` (their count), `min_seconds`,
+    `median_seconds`, `p90_seconds`, `p99_seconds` and `max_seconds`. Only packets that were put from `start_seconds` on and before
+    `end_seconds` count. A stream, or a receiver, that has no delivery is a row with 0 of them, and its times are missing. Times are true
+    time, or where there is no log by plan and at least the real ones, as in `latencies`.
 
     It is the latency of what was delivered: `fates` says how many packets never came, `deadline` which part came in time, and
     `latencies` has each delivery. Raises what `delivery_ratio` raises.
@@ -269,8 +281,9 @@ def latency(log: Report, by: str = "stream", *, receivers: Receivers = None, sta
     table["latency"] = waited(log, receivers)
     grouped = table[table["inside"]].groupby(keys or (lambda _: "all"))["latency"]
     summary = grouped.agg(
-        deliveries="size", min="min", median="median", p90=lambda s: s.quantile(0.9), p99=lambda s: s.quantile(0.99), max="max"
-    )
+        deliveries="size", min_seconds="min", median_seconds="median", p90_seconds=lambda s: s.quantile(0.9),
+        p99_seconds=lambda s: s.quantile(0.99), max_seconds="max",
+    )  # fmt: skip
     whom = meant(log.scenario, receivers)
     rows = {
         "stream": stream_index(log.scenario),

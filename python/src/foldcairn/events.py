@@ -5,7 +5,7 @@ Frames are counted from 0, ticks are of 1/64 µs, `node`, `sender`, `receiver` a
 
 from __future__ import annotations
 
-from dataclasses import dataclass
+from dataclasses import dataclass, field
 
 
 @dataclass(frozen=True, order=True, slots=True)
@@ -23,10 +23,11 @@ class Rate:
 
 @dataclass(frozen=True, order=True, slots=True)
 class On:
-    """The node is switched on at the start of the frame."""
+    """The node is switched on at the start of the frame; `seconds` is the time that was given for it, if one was."""
 
     frame: int
     node: int
+    seconds: float | None = field(default=None, compare=False, repr=False)
 
     def text(self) -> str:
         """The line of it."""
@@ -74,12 +75,14 @@ class Leave:
 
 @dataclass(frozen=True, order=True, slots=True)
 class Put:
-    """The node's stream gets a packet to send at the start of the frame: at most 32 bytes, in profile 2 96."""
+    """The node's stream gets a packet to send at the start of the frame: at most 32 bytes, in profile 2 96. `seconds` is the time that was
+    given for it, if one was: at most a frame before (`Scenario.put_seconds`)."""
 
     frame: int
     node: int
     stream: int
     payload: bytes
+    seconds: float | None = field(default=None, compare=False, repr=False)
 
     def text(self) -> str:
         """The line of it."""

@@ -27,6 +27,8 @@ QUEUE_LENGTH = 16
 
 OFF, NO_STREAM, FULL_QUEUE = "node off", "no stream", "full queue"
 LOST, WITHDRAWN = "lost with its node", "withdrawn"
+# When and where a packet was sent.
+_SENT = ["sent_frame", "rank", "sent_slot"]
 
 
 @report_answer
@@ -70,8 +72,8 @@ def _agree(report: Report, table: pd.DataFrame) -> bool:
         return False
     if not isinstance(report, Log):
         return True
-    sent = set(plain_rows(table[table["became"] == "sent"], *PACKET, "sent_frame", "sent_slot"))
-    return set(plain_rows(_sent(report), *PACKET, "sent_frame", "sent_slot")) == sent
+    sent = set(plain_rows(table[table["became"] == "sent"], *PACKET, *_SENT))
+    return set(plain_rows(_sent(report), *PACKET, *_SENT)) == sent
 
 
 def _delivered(report: Report) -> pd.DataFrame:
@@ -80,9 +82,15 @@ def _delivered(report: Report) -> pd.DataFrame:
 
 
 def _sent(log: Log) -> pd.DataFrame:
-    """The frame and the slot in which each packet was first transmitted by its node."""
+    """The frame, the rank and the slot in which each packet was first transmitted by its node."""
     data = log.initiations[log.initiations["kind"] == "data"].rename(columns={"origin": "source", "frame": "sent_frame", "slot": "sent_slot"})
-    return data[[*PACKET, "sent_frame", "sent_slot"]].drop_duplicates(PACKET)
+    return data[[*PACKET, *_SENT]].drop_duplicates(PACKET)
+
+
+def _at_hosts(log: Log) -> pd.DataFrame:
+    """The packets that the node delivered which hosts the rank of their round."""
+    at_host = log.deliveries["node"] == log.deliveries["rank"].map(log.scenario.hosts)
+    return log.deliveries.loc[at_host, PACKET].drop_duplicates().assign(host_delivered=True)
 
 
 def by_log(log: Log) -> pd.DataFrame:
@@ -99,27 +107,28 @@ def by_log(log: Log) -> pd.DataFrame:
     dropped, cleared = (np.array([why != "" for why in words], dtype=bool) for words in (told.dropped, told.cleared))
     table["boot"] = table["boot"].where(~dropped, -1)
     table["number"] = pd.Series(number, dtype="int64")
-    table = table.merge(_sent(log), how="left", on=PACKET).merge(_delivered(log), how="left", on=PACKET)
+    for told_by_log in (_sent(log), _delivered(log), _at_hosts(log)):
+        table = table.merge(told_by_log, how="left", on=PACKET)
     sent = table["sent_frame"].notna().to_numpy()
     table["became"] = pd.Categorical(
         np.select([dropped, sent, cleared], ["dropped", "sent", "cleared"], "waiting"), categories=results.FATES
     )
     table["cleared_frame"] = np.where(table["became"] == "cleared", told.cleared_frame, -1)
-    table["deliveries"] = table["deliveries"].fillna(0)
-    return table.fillna({"sent_frame": -1, "sent_slot": -1}).astype(results.FATE_TYPES)[list(results.FATE_TYPES)]
+    table["host_delivered"] = table["host_delivered"].eq(True)
+    return table.fillna({**dict.fromkeys(_SENT, -1), "deliveries": 0}).astype(results.FATE_TYPES)[list(results.FATE_TYPES)]
 
 
 def puts(report: Report) -> pd.DataFrame:
     """A row for each `put` line, in the order in which they happen.
 
-    frame, put_seconds    its frame, and the start of that in seconds
+    frame, put_seconds    its frame, and the time that was given for it in seconds (`Scenario.put_seconds`)
     source, boot, stream  the node, which of its boots it was (0 if it had no power), and the stream
     number                the number that the packet got in its stream and boot; -1 if it was dropped
     payload               in hexadecimal digits, `-` for none
     dropped               why it was not queued: "node off", "no stream" or "full queue"; empty if it was queued
     cleared               why its queue was emptied before it was sent: "lost with its node" (power went off), "withdrawn" (the stream
                           was left), or empty if it was not
-    became, sent_frame, sent_slot, deliveries, cleared_frame   as `results.fates` has them
+    became, sent_frame, rank, sent_slot, deliveries, host_delivered, cleared_frame   as `results.fates` has them
     Raises what `of` raises.
     """
     table = of(report)
@@ -128,13 +137,13 @@ def puts(report: Report) -> pd.DataFrame:
     dropped = [("" if word != "dropped" else why or FULL_QUEUE) for word, why in zip(became, told.dropped)]
     cleared = [(why if word == "cleared" else "") for word, why in zip(became, told.cleared)]
     made = _of_script(told)
-    made["put_seconds"] = made["frame"] * float(report.scenario.frame_seconds)
+    made["put_seconds"] = pd.Series([report.scenario.put_seconds(put) for put in told.rows], dtype="float64")
     made["number"] = table["number"]
     made["payload"] = pd.Series([put.payload.hex() or "-" for put in told.rows], dtype="object")
     made["dropped"] = pd.Categorical(dropped, categories=["", OFF, NO_STREAM, FULL_QUEUE])
     made["cleared"] = pd.Categorical(cleared, categories=["", LOST, WITHDRAWN])
     made = made[["frame", "put_seconds", "source", "boot", "stream", "number", "payload", "dropped", "cleared"]]
-    return made.join(table[["became", "sent_frame", "sent_slot", "deliveries", "cleared_frame"]])
+    return made.join(table[["became", *_SENT, "deliveries", "host_delivered", "cleared_frame"]])
 
 
 # What the script says of each put.

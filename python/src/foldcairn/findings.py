@@ -82,7 +82,10 @@ def _latency(log: Log, receivers: Receivers) -> str:
     row = delivery.latency(log, "all", receivers=receivers).iloc[0]
     if not row["deliveries"]:
         return "Nothing arrives, so there is no latency."
-    return f"Of what arrives half does within {row['median']:.1f} s, 90 % within {row['p90']:.1f} s, and all within {row['max']:.1f} s."
+    return (
+        f"Of what arrives half does within {row['median_seconds']:.1f} s, 90 % within {row['p90_seconds']:.1f} s, and all within "
+        f"{row['max_seconds']:.1f} s."
+    )
 
 
 def _in_time(log: Log, receivers: Receivers, seconds: float | None) -> str:

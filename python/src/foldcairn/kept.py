@@ -24,6 +24,11 @@ if TYPE_CHECKING:
     from .scenario import Scenario
 
 
+# Of which form the results are. It is part of each key, and is raised where what is counted of a run changes, so that older results are
+# made again.
+FORM = 2
+
+
 def digest(*parts: object) -> str:
     """A short name for these values: numbers, texts, bytes, lists and mappings of such, those of numpy and paths.
 
@@ -34,9 +39,9 @@ def digest(*parts: object) -> str:
 
 
 def content(scenario: Scenario) -> list[object]:
-    """All of a scenario that an answer about it depends on, for `digest`: its text with its ratios, and what the text has not: for whom
-    packets are meant, which streams are kept alive, and what reading tables left in doubt."""
-    return [scenario.network_text(warn=False), repr(scenario.receivers), sorted(scenario.keep_alive), list(scenario.remarks)]
+    """All of a scenario that an answer about it depends on, for `digest`: the form of results, its text with its ratios, and what the text
+    has not: for whom packets are meant, which streams are kept alive, and what reading tables left in doubt."""
+    return [FORM, scenario.network_text(warn=False), repr(scenario.receivers), sorted(scenario.keep_alive), list(scenario.remarks)]
 
 
 def plain(value: Any) -> Any:

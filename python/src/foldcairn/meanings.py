@@ -43,9 +43,10 @@ _CALLS: dict[str, tuple[Callable[..., Any], ...]] = {
 _ALWAYS = {
     "source": "the node that put the packets", "stream": "the stream of it, 0 to 3", "node": "the node", "host": "the node that hosts",
     "rank": "the rank of the host: 0 is the first choice", "boot": "which boot of the node", "host_boot": "which boot of the host",
-    "deliveries": "how many deliveries there were", "min": "the shortest time, in seconds", "median": "half of the deliveries took no longer",
-    "p90": "90 % of the deliveries took no longer, in seconds", "p99": "99 % of the deliveries took no longer, in seconds",
-    "max": "the longest time, in seconds", "puts": "the packets that were put", "delivered": "packets that at least one node delivered",
+    "deliveries": "how many deliveries there were", "min_seconds": "the shortest time",
+    "median_seconds": "half of the deliveries took no longer", "p90_seconds": "90 % of the deliveries took no longer",
+    "p99_seconds": "99 % of the deliveries took no longer", "max_seconds": "the longest time",
+    "puts": "the packets that were put", "delivered": "packets that at least one node delivered",
     "delivered by none": "packets that were sent and delivered by none", "queued": "packets that wait at the end of the run",
     "lost with its node": "packets that waited when the power of their node went off",
     "withdrawn": "packets that waited when their stream was left",

@@ -78,8 +78,9 @@ def _of_log(log: Log) -> list[tuple[str, str]]:
     def percent(ratio: float) -> str:
         return "none" if pd.isna(ratio) else f"{100 * ratio:.1f} %"
 
+    half, most = told["latency_median_seconds"], told["latency_p90_seconds"]
     return [
         ("delivery ratio", f"{percent(told['ratio_of_put'])} of what was put, {percent(told['ratio_of_sent_while_on'])} of what was sent"),
-        ("latency", "none" if pd.isna(told["latency_median"]) else f"median {told['latency_median']:.1f} s, 90 % within {told['latency_p90']:.1f} s"),
+        ("latency", "none" if pd.isna(half) else f"median {half:.1f} s, 90 % within {most:.1f} s"),
         ("duty cycle", f"{percent(told['duty_cycle'])}, {percent(told['duty_cycle_in_rounds'])} in rounds"),
     ]

@@ -138,8 +138,8 @@ def _events(scenario: Scenario) -> list[str]:
 _NUMBERS: dict[str, tuple[str, Callable[[float], str]]] = {
     "ratio_of_put": ("of what was put was delivered at {whom}", lambda ratio: f"{100 * ratio:.1f} %"),
     "ratio_of_sent_while_on": ("of what was sent while the receiver had power", lambda ratio: f"{100 * ratio:.2f} %"),
-    "latency_median": ("median latency", lambda seconds: f"{seconds:.1f} s"),
-    "latency_p90": ("90 % are delivered within", lambda seconds: f"{seconds:.1f} s"),
+    "latency_median_seconds": ("median latency", lambda seconds: f"{seconds:.1f} s"),
+    "latency_p90_seconds": ("90 % are delivered within", lambda seconds: f"{seconds:.1f} s"),
     "all_joined_seconds": ("all nodes had joined after the first start", lambda seconds: f"{seconds:.1f} s"),
     "all_accepted_seconds": ("all streams were accepted after the first start", lambda seconds: f"{seconds:.1f} s"),
     "never_accepted": ("times that a stream was never accepted by a host, over all hosts", lambda count: f"{count:.0f}"),

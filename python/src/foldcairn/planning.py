@@ -150,7 +150,7 @@ def summary(run: Report | Counts | Scenario | str, *, receivers: Receivers = Non
     `ratio_of_sent_while_on`, as `Sample.network` has them, and the parts `dropped`, `sent`, `waiting` and `cleared`.
 
     ratio_of_put, ratio_of_sent_while_on   as `delivery_ratio` has them, over all streams and the `receivers` that are meant
-    latency_median, latency_p90    seconds from put to delivery
+    latency_median_seconds, latency_p90_seconds    seconds from put to delivery
     hosts                          how many terms of hosts there were
     all_joined_seconds, all_accepted_seconds   of the first term, as `hosts` has them: of the first start, without power cycles
     never_accepted                 streams that were requested in a term and never accepted in it, over all terms
@@ -175,8 +175,8 @@ def summary(run: Report | Counts | Scenario | str, *, receivers: Receivers = Non
     return {
         "ratio_of_put": float(ratio["ratio_of_put"]),
         "ratio_of_sent_while_on": float(ratio["ratio_of_sent_while_on"]),
-        "latency_median": float(waited.median()),
-        "latency_p90": float(waited.quantile(0.9)),
+        "latency_median_seconds": float(waited.median()),
+        "latency_p90_seconds": float(waited.quantile(0.9)),
         "hosts": len(terms),
         "all_joined_seconds": float(terms["all_joined_seconds"].iloc[0]) if len(terms) else float("nan"),
         "all_accepted_seconds": float(terms["all_accepted_seconds"].iloc[0]) if len(terms) else float("nan"),
@@ -208,8 +208,8 @@ def _summary_without_log(report: Report, receivers: Receivers) -> dict[str, floa
     return {
         "ratio_of_put": float(ratio["ratio_of_put"]),
         "ratio_of_sent_while_on": float(ratio["ratio_of_sent_while_on"]),
-        "latency_median": float(waited.median()),
-        "latency_p90": float(waited.quantile(0.9)),
+        "latency_median_seconds": float(waited.median()),
+        "latency_p90_seconds": float(waited.quantile(0.9)),
         "duty_cycle": float(duty["duty_cycle"].mean()),
         "duty_cycle_in_rounds": float(duty["duty_cycle_in_rounds"].mean()),
     }

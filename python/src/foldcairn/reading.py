@@ -5,6 +5,7 @@ from __future__ import annotations
 import contextlib
 import os
 from collections.abc import Callable, Sequence
+from dataclasses import replace
 from typing import TYPE_CHECKING, Any, TypeVar
 
 from . import arguments, faults, lines
@@ -41,7 +42,25 @@ def scenario_of(kind: Callable[..., AnyScenario], text: str | bytes | os.PathLik
     for row in data.split(b"\n"):
         _take_kept(made, row, own)
     made.drawn = set(made.losses) - own if made.seed is not None else set()
+    _take_seconds(made, data)
     return made
+
+
+def _take_seconds(made: Scenario, data: bytes) -> None:
+    """Takes the times of puts, each from the comment above its line. Lines of the script are in the order of the text."""
+    from .scenario import KEPT
+
+    place, seconds = 0, None
+    for row in data.split(b"\n"):
+        match row.decode("utf-8", "replace").split():
+            case [mark, "seconds", word] if mark == KEPT:
+                with contextlib.suppress(ValueError):
+                    seconds = arguments.real("seconds", float(word))
+            case [word, *_] if word in _SCRIPT:
+                line = made.script[place]
+                if seconds is not None and isinstance(line, Put):
+                    made.script[place] = replace(line, seconds=seconds)
+                place, seconds = place + 1, None
 
 
 def _take_kept(made: Scenario, row: bytes, own: set[Loss]) -> None:

@@ -6,12 +6,18 @@
 |---|---|
 | None | what the scenario says (`Scenario.sinks`), and all nodes if it says nothing |
 | "all" | each node |
-| "hosts" | the host that serves: that of the round in which the packet was sent (if it never was, of the last round before its put) |
+| "hosts" | whichever host serves: the node that hosts the rank of the round in which the packet was sent |
 | 101, or [101, 131] | each of these nodes; names of nodes are read too |
 | {7: 101, (8, 1): "hosts", "others": "all"} | one of the above for each source, or each source and stream |
 
-A packet is never meant for its own source. A report without a log knows the rounds alone that delivered something. Tested, not
-proved.
+A packet is never meant for its own source. Of "hosts" one rule holds in all answers, with a log, without one and over many seeds:
+
+- A packet that was sent is delivered if the node that hosts the rank of its round received it in that round.
+- One that was never sent counts as not delivered. It has no host, so by node it is in no row: the row of a node says how many of the
+  packets that were sent in the rounds of this host it received.
+- One whose source hosts that round itself is not counted.
+
+`Meant.pairs` and `Meant.kept` are this rule. Tested, not proved.
 """
 
 from __future__ import annotations
@@ -22,18 +28,18 @@ from typing import TYPE_CHECKING, Any
 
 import numpy as np
 import pandas as pd
-from numpy.typing import NDArray
 
 from . import arguments
 from .events import Put, Stream
 
 if TYPE_CHECKING:
-    from .results import Report
     from .scenario import Scenario
 
 # What may be given for `receivers`: a word, a node, several nodes, or one of these for each source.
 Receivers = Any
 ALL, HOSTS, OTHERS = "all", "hosts", "others"
+# In place of a host, of a packet that was never sent.
+NO_HOST = -1
 _STREAM = ["source", "stream"]
 
 
@@ -76,49 +82,28 @@ class Meant:
 
     def kept(self, deliveries: pd.DataFrame) -> pd.Series:
         """Which rows of `results.Report.deliveries` are at a node that the packet is meant for."""
-        at_host = deliveries["node"] == deliveries["rank"].map(self.scenario.hosts)
+        at_host = deliveries["node"] == self._hosts(deliveries)
         kept = pd.Series(False, deliveries.index)
         for nodes, streams in self.groups():
             kept |= of_streams(deliveries, streams) & (at_host if nodes == HOSTS else deliveries["node"].isin(nodes))
         return kept
 
-    def pairs(self, log: Report, packets: pd.DataFrame) -> pd.DataFrame:
-        """A row for each packet of `delivery.packets`, with `sent_seconds`, and each node, `node`, that it is meant for."""
+    def pairs(self, packets: pd.DataFrame) -> pd.DataFrame:
+        """A row for each packet and each node, `node`, that it is meant for. The packets have `source`, `stream` and `rank`, that of the
+        round in which they were sent, -1 where they never were: of these the node is `NO_HOST` where they are meant for "hosts"."""
         parts = []
         for nodes, streams in self.groups():
             part = packets[of_streams(packets, streams)]
             chosen: list[int] = [] if isinstance(nodes, str) else sorted(nodes)
             repeated = part.loc[part.index.repeat(len(chosen) if nodes != HOSTS else 1)]
-            serving = _serving(log, part) if nodes == HOSTS else np.tile(np.array(chosen, dtype="int64"), len(part))
-            parts.append(repeated.assign(node=serving))
+            to = self._hosts(part).to_numpy() if nodes == HOSTS else np.tile(np.array(chosen, dtype="int64"), len(part))
+            parts.append(repeated.assign(node=to))
         table = pd.concat(parts) if parts else packets.assign(node=0).iloc[:0]
         return table[table["node"] != table["source"]].sort_index(kind="stable").reset_index(drop=True)
 
-
-def _serving(log: Report, packets: pd.DataFrame) -> NDArray[np.int64]:
-    """The host that serves when each packet is sent, or is put if it never is; the packets have `rank`, `sent_seconds`, which may be by
-    plan, and `put_seconds`."""
-    hosts = log.scenario.hosts
-    opened = _rounds(log).sort_values("start_seconds")
-    if opened.empty:
-        return np.full(len(packets), hosts[min(hosts)] if hosts else -1, dtype="int64")
-    # Without a log nobody knows the channel of a packet that was sent and delivered by none, but the frame in which it was sent.
-    when = packets["sent_seconds"].fillna(packets["put_seconds"])
-    place = np.searchsorted(opened["start_seconds"].to_numpy(), when.to_numpy(), side="right") - 1
-    before = opened["host"].to_numpy()[np.maximum(place, 0)].astype("int64")
-    sent = packets["rank"].map({-1: -1, **hosts}).to_numpy(dtype="int64")
-    return np.where(sent >= 0, sent, before)
-
-
-def _rounds(log: Report) -> pd.DataFrame:
-    """The start and the host of each round; without a log, of each that delivered something."""
-    from .results import Log
-    from .rounds import rounds
-
-    if isinstance(log, Log):
-        return rounds(log)[["start_seconds", "host"]]
-    known = log.deliveries.drop_duplicates(["frame", "rank"])
-    return pd.DataFrame({"start_seconds": known["planned_seconds"], "host": known["rank"].map(log.scenario.hosts)})
+    def _hosts(self, table: pd.DataFrame) -> pd.Series:
+        """The hosts of the ranks of a table."""
+        return table["rank"].map(self.scenario.hosts).fillna(NO_HOST).astype("int64")
 
 
 def meant(scenario: Scenario, receivers: Receivers = None) -> Meant:

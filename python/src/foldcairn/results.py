@@ -56,7 +56,8 @@ PACKET = ["source", "boot", "stream", "number"]
 FATES = ("dropped", "sent", "waiting", "cleared")
 FATE_TYPES = {
     "frame": "int64", "source": "int64", "stream": "int64", "boot": "int64", "number": "int64",
-    "became": pd.CategoricalDtype(FATES), "sent_frame": "int64", "sent_slot": "int64", "deliveries": "int64", "cleared_frame": "int64",
+    "became": pd.CategoricalDtype(FATES), "sent_frame": "int64", "rank": "int64", "sent_slot": "int64", "deliveries": "int64",
+    "host_delivered": "bool", "cleared_frame": "int64",
 }  # fmt: skip
 _DROP = {"frame": "int64", "node": "int64", "stream": "int64"}
 _COST = {"node": "int64", "transmit_ticks": "int64", "window_ticks": "int64", "scanned_frames": "int64"}
@@ -246,8 +247,10 @@ def fates(scenario: Given, seed: int = 1, *, program: Path | None = None, timeou
     boot, number             which boot of the node it was, and the packet's number in the stream since then; -1 if it was dropped
     became                   "dropped" (it never was in a queue), "sent" (its node transmitted it), "waiting" (it was in its queue at the
                              end), or "cleared" (its queue was emptied before it was sent)
-    sent_frame, sent_slot    when its node transmitted it first: the frame, and the data slot of its round; -1 if it never did
+    sent_frame, rank, sent_slot    when its node transmitted it first: the frame, the rank of its round, and the data slot in that; -1 if it
+                             never did
     deliveries               how many nodes delivered it
+    host_delivered           whether the node that hosts this rank delivered it; never where that is its own source
     cleared_frame            in which frame its queue was emptied; -1 if it was not
     Arguments, ranges and errors are those of `outcome`. Raises `columns.UnknownLine` where the program writes other lines.
     """
@@ -264,21 +267,28 @@ def fates_of(report: Report) -> pd.DataFrame:
 
 def _fates(text: bytes, seed: int, program: Path | None, timeout: float | None) -> pd.DataFrame:
     output = programs.execute(["fates", str(seed)], text, program=program, timeout=timeout)
-    rows = [_fate(line) for line in output.decode().splitlines()]
-    return pd.DataFrame(rows, columns=list(FATE_TYPES)).astype(FATE_TYPES)
+    return pd.DataFrame(fate_rows(output), columns=list(FATE_TYPES)).astype(FATE_TYPES)
 
 
-def _fate(line: str) -> tuple[int | str, ...]:
+def fate_rows(output: bytes) -> list[tuple[Any, ...]]:
+    """The lines of `fates`, each as a row with the columns of `FATE_TYPES`.
+
+    Raises `columns.UnknownLine` where a line is none of `fates`.
+    """
+    return [_fate(line) for line in output.decode().splitlines()]
+
+
+def _fate(line: str) -> tuple[Any, ...]:
     """The row of a line of `fates`."""
     try:
         word, *place = line.split(" ")
         if word == "put" and place[3:] == ["dropped"]:
             frame, node, stream = map(int, place[:3])
-            return frame, node, stream, -1, -1, "dropped", -1, -1, 0, -1
+            return frame, node, stream, -1, -1, "dropped", -1, -1, -1, 0, 0, -1
         became, more = place[5], [int(number) for number in place[6:]]
-        sent = more if became == "sent" else [-1, -1, 0]
+        sent = more if became == "sent" else [-1, -1, -1, 0, 0]
         cleared = more if became == "cleared" else [-1]
-        if word == "put" and became in FATES[1:] and len(more) == {"sent": 3, "waiting": 0, "cleared": 1}[became]:
+        if word == "put" and became in FATES[1:] and len(more) == {"sent": 5, "waiting": 0, "cleared": 1}[became]:
             return *map(int, place[:5]), became, *sent, *cleared
     except (ValueError, IndexError):
         pass

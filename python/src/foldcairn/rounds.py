@@ -39,7 +39,8 @@ def rounds(log: Log) -> pd.DataFrame:
     start_ticks, start_seconds       when slot 0 starts by the host's clock, in true time
     data_slots, contention_slots     how many the round has; its closing slot comes after them
     acknowledgements                 requests that its closing acknowledges
-    gap                              frames to the next round, as its closing says
+    gap                              frames to the next round, as its closing says; -1 where the log has no closing of it, as one that was
+                                     recorded may lack it
     """
     schedules = log.initiations[log.initiations["kind"].isin(["opening", "closing"])]
     keys = ["frame", "rank"]
@@ -56,8 +57,8 @@ def rounds(log: Log) -> pd.DataFrame:
         }
     )
     taken = [len(one.acknowledgements) for one in closing["decoded"]]
-    table["acknowledgements"] = pd.Series(taken, closing.index, dtype="int64")
-    table["gap"] = closing["gap"]
+    table["acknowledgements"] = pd.Series(taken, closing.index, dtype="int64").reindex(table.index, fill_value=0)
+    table["gap"] = closing["gap"].reindex(table.index, fill_value=-1)
     return table.reset_index().sort_values(keys, ignore_index=True)
 
 

@@ -104,7 +104,7 @@ class Sample:
 
         ratio_of_put           the part, 0 to 1, of what was put that was delivered, of pairs of a packet and a receiver that it is meant for
         within_deadline        the part of what was put that was delivered within the deadline, if one is given
-        latency_median, latency_p90   the times, in seconds, that half and 90 % of the deliveries took at most
+        latency_median_seconds, latency_p90_seconds   the times, in seconds, that half and 90 % of the deliveries took at most
         dropped, sent, waiting, cleared   the parts of the packets that were put with each fate (`fates`)
         duty_cycle, duty_cycle_in_rounds, on_seconds   the means over the nodes that had power (`duty_cycle`)
         scanned_frames, searching_seconds   the means over the nodes (`search`)
@@ -123,14 +123,14 @@ class Sample:
         """The part, 0 to 1, of what was put that was delivered, of pairs of a packet and a receiver that it is meant for: `ratio_of_put`.
 
         `by` is "stream" (of each source and stream), "node" (at each receiver; of packets that are meant for whichever host serves, at
-        each host that served) or "all". Raises `ArgumentError` where it is another word."""
+        the host of the round in which they were sent) or "all". Raises `ArgumentError` where it is another word."""
         found = self._of(by)
         return self._told(self._table(by, {"ratio_of_put": found.ratio("delivered", "put")}, True, self._tallies.packets(by)))
 
     def deadline(self, by: str = "stream") -> pd.DataFrame:
         """The part of what was put that was delivered within the deadline: `within_deadline`; `by` is as in `delivery_ratio`.
 
-        A latency is counted as in `latency`, so what comes by the deadline in the last round before it may count as late. A packet whose
+        A latency is counted as in `latency`, at most, so what comes by the deadline in the last round before it may count as late. A packet whose
         deadline lies after the end of the run counts as late too, unless it came: take a run that is long for the deadline.
         `planning.deadline` has both exactly, of one seed. Raises `ArgumentError` where no deadline was given."""
         if self.deadline_seconds is None:
@@ -138,13 +138,15 @@ class Sample:
         return self._told(self._table(by, {"within_deadline": self._of(by).ratio("in_time", "put")}, True, self._tallies.packets(by)))
 
     def latency(self, by: str = "stream") -> pd.DataFrame:
-        """The times from put to delivery in seconds: `latency_median` and `latency_p90`, which half and 90 % of the deliveries of a seed
+        """The times from put to delivery in seconds: `latency_median_seconds` and `latency_p90_seconds`, which half and 90 % of the deliveries of a seed
         took at most. `by` is as in `delivery_ratio`; a seed without any delivery is left out.
 
-        The program counts in frames: a latency is the time from the start of the frame of the put to the end of the last data slot that
-        the round of the delivery may have. So it is up to 1.4 s (profile 1) or 2.3 s (profile 2) more than `planning.latency` has."""
+        The program counts in frames, from that in which a packet is handed over to that of its delivery, so a latency here is a bound, and
+        never below the real one. It counts from the earliest put of its stream within a frame to the end of the last data slot that the
+        round of the delivery may have, by the slowest clock. So it is up to 1.4 s (profile 1) or 2.3 s (profile 2) more than
+        `planning.latency` has where all puts are given as frames, and up to a frame more than that where they are given in seconds."""
         found = self._of(by)
-        return self._told(self._table(by, {"latency_median": found["median"], "latency_p90": found["p90"]}))
+        return self._told(self._table(by, {"latency_median_seconds": found["median"], "latency_p90_seconds": found["p90"]}))
 
     def fates(self, by: str = "stream") -> pd.DataFrame:
         """Which part of the packets that were put was `dropped` (it never was in a queue), `sent`, `waiting` at the end, and `cleared` (its
@@ -230,7 +232,7 @@ class Sample:
         found = {"seed": np.array(self.seeds, dtype="int64"), "ratio_of_put": whole.ratio("delivered", "put")[:, 0]}
         if self.deadline_seconds is not None:
             found["within_deadline"] = whole.ratio("in_time", "put")[:, 0]
-        found |= {"latency_median": whole["median"][:, 0], "latency_p90": whole["p90"][:, 0]}
+        found |= {"latency_median_seconds": whole["median"][:, 0], "latency_p90_seconds": whole["p90"][:, 0]}
         found |= {name: _ratio(fates[:, place], fates[:, 0]) for place, name in enumerate(_FATES, 1)}
         for name in ("duty_cycle", "duty_cycle_in_rounds", "on_seconds", "scanned_frames", "searching_seconds"):
             found[name] = _mean(self._spent[name])[:, 0]
@@ -271,9 +273,8 @@ def sample(
     """How the answers about a network spread over seeds: each seed draws the losses anew from the reception ratios (`prr`, `ratios`), and
     the run may be as long as for `results.outcome`. `Sample` says what it has. Times are by plan, in seconds.
 
-    receivers   for whom packets are meant, in the forms of `foldcairn.receivers`. The program counts what arrives at which node, and not
-                which host served then. So for "hosts", where there are several, and for streams with `keep_alive`, each seed is asked
-                for its deliveries and fates too, which takes about three times as long
+    receivers   for whom packets are meant, in the forms of `foldcairn.receivers`. Where streams have `keep_alive`, whose packets the
+                program counts too, each seed is asked for its deliveries and fates in addition, which takes about three times as long
     deadline    a time in seconds, for the part of the packets that is delivered within it (`Sample.deadline`)
     executor    an executor of `concurrent.futures`, or a client of `distributed`; without one a process for each processor
     results     a folder that keeps each seed in a file as soon as it is there; a later call, also one of other seeds, takes what is there
@@ -313,7 +314,7 @@ def summary(found: Counts, receivers: Receivers) -> dict[str, float]:
     if len(found.seeds) != 1:
         raise arguments.ArgumentError(f"a summary is of one seed, and these are counts of {len(found.seeds)}; take planning.sample for many")
     runs = of(found.scenario, found.seeds, receivers, None, tallies.tally(found, receivers, None)).runs
-    names = ("ratio_of_put", "latency_median", "latency_p90", *_FATES, "duty_cycle", "duty_cycle_in_rounds")
+    names = ("ratio_of_put", "latency_median_seconds", "latency_p90_seconds", *_FATES, "duty_cycle", "duty_cycle_in_rounds")
     return {name: float(runs[name].iloc[0]) for name in names}
 
 

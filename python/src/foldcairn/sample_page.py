@@ -29,7 +29,7 @@ _TITLES = {
 # The words of the quantities, and those over the columns.
 _QUANTITIES = {
     "ratio_of_put": "delivered, part of what was put", "within_deadline": "delivered within the deadline, part of what was put",
-    "latency_median": "half of the deliveries came within, s", "latency_p90": "90 % of the deliveries came within, s",
+    "latency_median_seconds": "half of the deliveries came within, s", "latency_p90_seconds": "90 % of the deliveries came within, s",
     "dropped": "dropped at once, part of the packets", "sent": "sent, part of the packets", "waiting": "waiting at the end, part of the packets",
     "cleared": "in a queue that was emptied, part of the packets", "duty_cycle": "duty cycle", "duty_cycle_in_rounds": "duty cycle without searching",
     "on_seconds": "radio on, s", "scanned_frames": "frames at whose start it searched", "searching_seconds": "searching for a host, s",

@@ -13,7 +13,7 @@ from dataclasses import MISSING, dataclass, field, fields, replace
 from operator import attrgetter
 from typing import TYPE_CHECKING, Any, Self
 
-from . import arguments, doubts, lines
+from . import arguments, doubts, lines, moments
 from .arguments import ArgumentError
 from .events import Capture, Cut, Leave, Loss, Off, On, Put, Rate, Ratio, ScriptLine, Stream, millionths
 from .lines import Context, Field
@@ -34,7 +34,8 @@ Link = tuple[int, int]
 # A node as calls take it: by its id, or by its name where it has one.
 Node = int | str
 
-# How a comment begins that is no remark: a name of a node, or by what the losses of a text were drawn, and which of them were not.
+# How a comment begins that is no remark: a name of a node, by what the losses of a text were drawn, and which of them were not, or the
+# time of the put below it.
 KEPT = "#:"
 
 
@@ -83,7 +84,8 @@ class Scenario:
     losses, cuts, captures   single losses of links, of nodes, and receptions in spite of a collision
     script    what happens by frame; `text` sorts it by frames and keeps the order within a frame
 
-    What follows is for the answers about a run, and the program does not know it. A text has it as comments, but for `remarks`.
+    What follows is for the answers about a run, and the program does not know it. A text has it as comments, and the times of
+    puts that were given in seconds, but for `remarks`.
     receivers   for whom packets are meant, in the forms of `foldcairn.receivers` (`sinks` sets it); None: for all nodes
     keep_alive  the streams that are kept alive by packets of no bytes (`stream(.., keep_alive=..)`), which no answer counts
     labels      id -> name, where nodes have names: tables and pictures show them in place of the ids, and calls take them
@@ -93,8 +95,10 @@ class Scenario:
     drawn       those of the `losses` that were drawn; the others are its own (`undrawn`)
     told        whether the length of the run was told already, where it is too long for a log
 
-    The methods that build return the scenario, so calls can be chained. Each takes its time as a frame or in seconds, which
-    become the frame that they lie in. They raise `ScenarioError` where a value is out of its range or a node is not given.
+    The methods that build return the scenario, so calls can be chained. Each takes its time as a frame or in seconds. What is given in
+    seconds takes effect at the start of the first frame that starts then or later; a node goes off, and a ratio falls, in the frame
+    that the time lies in (`foldcairn.moments` says why). They raise `ScenarioError` where a value is out of its range, no frame of the
+    run is left for a time, or a node is not given.
     """
 
     frames: int
@@ -180,14 +184,27 @@ class Scenario:
 
     def frame_at(self, seconds: float) -> int:
         """The frame that this time, in seconds from the start of the run, lies in. Raises `ScenarioError` where it is no number."""
-        return int(_real("seconds", seconds) // self.frame_seconds)
+        return moments.frame_of(_real("seconds", seconds), self.frame_seconds)
 
-    def _frame(self, frame: int | None, seconds: float | None) -> int:
+    def put_seconds(self, put: Put) -> float:
+        """When a put was given, in seconds from the start of the run: at most a frame before it is handed over, at the start of its frame.
+        One that was given as a frame was given then, and so was one whose time another frame would take by now."""
+        if put.seconds is not None and moments.frame_from(put.seconds, self.frame_seconds) == put.frame:
+            return put.seconds
+        return float(put.frame * self.frame_seconds)
+
+    def _frame(self, word: str, frame: int | None, seconds: float | None, find: Callable[[float, int], int] = moments.frame_from) -> int:
+        """The frame in which a line of this word takes effect."""
         if frame is not None and seconds is not None:
             raise ScenarioError("a time is given as a frame or in seconds, not as both")
-        if seconds is not None:
-            return self.frame_at(seconds)
-        return 0 if frame is None else frame
+        if seconds is None:
+            return 0 if frame is None else frame
+        given = _real("seconds", seconds)
+        found = find(given, self.frame_seconds)
+        if not 0 <= found < self.frames:
+            after = f"the run ends at {self.seconds} s, and its last frame starts at {self.seconds - self.frame_seconds} s"
+            raise ScenarioError(f"`{word}` at {given:.10g} s: {after if found > 0 else 'times are from 0 s on'}")
+        return found
 
     # What is checked.
 
@@ -279,14 +296,25 @@ class Scenario:
         self, sender: Node, receiver: Node, prr: float, *, frame: int | None = None, seconds: float | None = None
     ) -> Self:
         """From that time on (from the start of the run without one), until a later ratio of it, this link passes what the sender
-        transmits at the ratio `prr` of 0 to 1, which counts in millionths, rounded. The other direction keeps its own."""
+        transmits at the ratio `prr` of 0 to 1, which counts in millionths, rounded. The other direction keeps its own.
+
+        A time in seconds within a frame counts for that frame where the ratio is lower than the one in force, else for the next one: so
+        each frame has the least ratio of its time. Give the ratios of a link in the order of their times."""
         ratio = self._ratio(sender, receiver, prr)
-        at, sender, receiver, _ = self._numbers("ratio", self._frame(frame, seconds), sender, receiver, millionths(ratio))
+        within = self._frame("ratio", frame, seconds, moments.frame_of)
+        at, sender, receiver, _ = self._numbers("ratio", within, sender, receiver, millionths(ratio))
         if (sender, receiver) not in self.links:
             raise ScenarioError(f"`ratio {at} {sender} {receiver} {millionths(ratio)}`: there is no link from {sender} to {receiver}")
+        if seconds is not None and moments.frame_from(seconds, self.frame_seconds) > at:
+            if ratio > self.prr_at(frame=at).get((sender, receiver), 1.0):
+                at += 1
+            else:
+                # A higher one that was given for an earlier time of this frame is over before its frame starts.
+                self.ratios.pop((at + 1, sender, receiver), None)
         if at == 0:
             return self.link(sender, receiver, ratio)
-        self.ratios[at, sender, receiver] = ratio
+        if at < self.frames:
+            self.ratios[at, sender, receiver] = ratio
         return self
 
     def ratio_lines(self) -> list[Ratio]:
@@ -297,7 +325,9 @@ class Scenario:
 
     def prr_at(self, *, frame: int | None = None, seconds: float | None = None) -> dict[Link, float]:
         """The reception ratios in force at that time, of links that have less than 1 then."""
-        at, found = self._frame(frame, seconds), {link: 1.0 for link in self.links}
+        if frame is not None and seconds is not None:
+            raise ScenarioError("a time is given as a frame or in seconds, not as both")
+        at, found = self.frame_at(seconds) if seconds is not None else frame or 0, {link: 1.0 for link in self.links}
         found.update({(one.sender, one.receiver): one.prr for one in self.ratio_lines() if one.frame <= at})
         return {link: ratio for link, ratio in sorted(found.items()) if ratio < 1}
 
@@ -328,29 +358,40 @@ class Scenario:
         return self
 
     def on(self, *nodes: Node, frame: int | None = None, seconds: float | None = None) -> Self:
-        """These nodes, or all that are given so far, are switched on at the start of that frame (0 without a time)."""
-        return self._power(On, "on", nodes, self._frame(frame, seconds))
+        """These nodes, or all that are given so far, are switched on at the start of that frame (0 without a time), or of the first that
+        starts at that time or after it."""
+        at = self._frame("on", frame, seconds)
+        for node in nodes or sorted(self.nodes):
+            at, node = self._numbers("on", at, node)
+            self.script.append(On(at, node, seconds))
+        return self
 
     def off(self, *nodes: Node, frame: int | None = None, seconds: float | None = None) -> Self:
-        """These nodes, or all that are given so far, are switched off at the start of that frame (0 without a time)."""
-        return self._power(Off, "off", nodes, self._frame(frame, seconds))
-
-    def _power(self, line: type[On] | type[Off], word: str, nodes: Sequence[Node], frame: int) -> Self:
+        """These nodes, or all that are given so far, are switched off at the start of that frame (0 without a time), or of the frame that
+        the time lies in: never later than the failure. One that came on earlier in that frame, which counts from the next frame on, goes
+        off with the next frame too."""
+        at = self._frame("off", frame, seconds, moments.frame_of)
         for node in nodes or sorted(self.nodes):
-            self.script.append(line(*self._numbers(word, frame, node)))
+            _, node = self._numbers("off", at, node)
+            came_on = seconds is not None and any(
+                isinstance(line, On) and (line.frame, line.node) == (at + 1, node) and line.seconds is not None and line.seconds <= seconds
+                for line in self.script
+            )
+            self.script.append(Off(at + came_on, node))
         return self
 
     def stream(
         self, node: Node, interval: int, *, stream: int = 0, frame: int | None = None, seconds: float | None = None,
         keep_alive: float | None = None,
     ) -> Self:  # fmt: skip
-        """Stream 0 to 3 of the node requests a slot every `interval` seconds (1 to 120) from that frame on.
+        """Stream 0 to 3 of the node requests a slot every `interval` seconds (1 to 120) from that frame on, or from the first that starts at
+        that time or after it.
 
         A host takes a stream away whose slots stayed empty 16 times in a row, some 16 intervals, and the next packet has to ask
         for it anew. With `keep_alive` the stream gets a packet of no bytes that often, in seconds, to the end of the run; take
         less than 16 intervals. Planning answers leave these packets out.
         """
-        asked = Stream(*self._numbers("stream", self._frame(frame, seconds), node, stream, interval))
+        asked = Stream(*self._numbers("stream", self._frame("stream", frame, seconds), node, stream, interval))
         self.script.append(asked)
         if keep_alive is not None:
             self.keep_alive.add((asked.node, asked.stream))
@@ -395,19 +436,21 @@ class Scenario:
         return f"{self.name(node)}.{stream}"
 
     def leave(self, node: Node, *, stream: int = 0, frame: int | None = None, seconds: float | None = None) -> Self:
-        """Stream 0 to 3 of the node ends in that frame, and its queue is emptied."""
-        self.script.append(Leave(*self._numbers("leave", self._frame(frame, seconds), node, stream)))
+        """Stream 0 to 3 of the node ends in that frame, or in the first that starts at that time or after it, and its queue is emptied."""
+        self.script.append(Leave(*self._numbers("leave", self._frame("leave", frame, seconds), node, stream)))
         return self
 
     def put(
         self, node: Node, payload: bytes = b"", *, stream: int = 0, frame: int | None = None, seconds: float | None = None
     ) -> Self:
-        """The node's stream gets a packet to send at the start of that frame."""
+        """The node's stream gets a packet to send at the start of that frame, or of the first that starts at that time or after it. Its
+        latency counts from the time that is given."""
         try:
             content = arguments.payload("payload", payload)
         except ArgumentError as error:
             raise ScenarioError(str(error)) from None
-        self.script.append(Put(*self._require("put", self._frame(frame, seconds), node, stream, content)))
+        at, source, stream, content = self._require("put", self._frame("put", frame, seconds), node, stream, content)
+        self.script.append(Put(at, source, stream, content, seconds))
         return self
 
     def every(
@@ -421,10 +464,11 @@ class Scenario:
         until: float | None = None,
         interval: int | None = None,
     ) -> Self:
-        """A packet every so many seconds from `start` on, before `until` (seconds; the end of the run without one).
+        """A packet every so many seconds from `start` on, before `until` (seconds; the end of the run without one). Each is handed over as by
+        `put`, so none comes after the start of the last frame.
 
         `payload` is the same for all, or a function of the packet's number from 0 on; without one it is the id (1 byte) and
-        that number (2 bytes). With an `interval` the stream is requested too, in the frame of `start`.
+        that number (2 bytes). With an `interval` the stream is requested too, from `start` on.
         """
         seconds, start = _real("seconds", seconds, above=0), _real("start", start, 0)
         end = float(self.seconds) if until is None else min(_real("until", until), self.seconds)
@@ -437,7 +481,7 @@ class Scenario:
             self.stream(node, interval, stream=stream, seconds=start)
         node = self.id(node) if isinstance(node, str) and self.labels else node
         count = 0
-        while (time := start + count * seconds) < end:
+        while (time := start + count * seconds) < end and moments.frame_from(time, self.frame_seconds) < self.frames:
             if payload is None:
                 content = bytes([arguments.whole("node", node, 1, 200)]) + (count & 0xFFFF).to_bytes(2, "big")
             else:
@@ -562,7 +606,8 @@ class Scenario:
     def text(self, *, warn: bool = True) -> str:
         """The canonical text of the scenario; lines of the script are sorted by frames, and keep their order within one. Above it,
         as comments, are the names and the places of nodes, the receivers, the streams that are kept alive, and the seed and the ratios by
-        which its losses were drawn, if they were. Ratios by which none were drawn are lost: `network_text` keeps them.
+        which its losses were drawn, if they were. A put whose time lies before its frame has a comment above it, as `#: seconds 303.7`.
+        Ratios by which no losses were drawn are lost: `network_text` keeps them.
 
         Gives `ScenarioWarning`s of what `cautions` names, and of ratios that are lost, unless `warn` is False. Raises `ScenarioError` where
         the receivers name a node that is not there.
@@ -612,7 +657,10 @@ class Scenario:
         yield from (rate.text() for rate in sorted(self.rates))
         yield from (f"host {rank} {node}" for rank, node in sorted(self.hosts.items()))
         yield from (f"link {sender} {receiver}" for sender, receiver in sorted(self.links))
-        yield from (event.text() for event in sorted(self.script, key=attrgetter("frame")))
+        for event in sorted(self.script, key=attrgetter("frame")):
+            if isinstance(event, Put) and (given := self.put_seconds(event)) != event.frame * self.frame_seconds:
+                yield f"{KEPT} seconds {given!r}"
+            yield event.text()
         single: Iterable[Iterable[Loss | Cut | Capture]] = (self.losses, self.cuts, self.captures)
         yield from (event.text() for events in single for event in sorted(events))
 

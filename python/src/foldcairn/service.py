@@ -258,11 +258,13 @@ def _cause(log: Log, row: Any, put: pd.DataFrame, boots: pd.DataFrame) -> str:
     own = boots[(boots["node"] == row.source) & (boots["on_seconds"] <= start) & (boots["off_seconds"] >= end)]
     if own.empty:
         return OWN_POWER
-    waiting = put[(put["source"] == row.source) & (put["stream"] == row.stream) & (put["put_seconds"] < end)]
+    # A packet waits from the start of its frame on.
+    put = put.assign(waits_from=put["frame"] * log.scenario.frame_seconds)
+    waiting = put[(put["source"] == row.source) & (put["stream"] == row.stream) & (put["waits_from"] < end)]
     # What was put before the last delivery and came later, or never, was waiting all the time.
     waiting = waiting[waiting["delivered_seconds"].isna() | (waiting["delivered_seconds"] >= end)]
     back = seconds if np.isnan(row.first_round_seconds) else row.first_round_seconds
-    return HOST if (waiting["put_seconds"] < back).any() else NO_PACKET
+    return HOST if (waiting["waits_from"] < back).any() else NO_PACKET
 
 
 def no_host_from(log: Log) -> float:
@@ -272,7 +274,8 @@ def no_host_from(log: Log) -> float:
     opened = rounds(log)
     if opened.empty:
         return float("nan")
-    opened = opened.assign(due=opened["frame"].astype("int64") + opened["gap"].fillna(1).astype("int64"))
+    # Where nobody knows the gap the next round may be due in the next frame.
+    opened = opened.assign(due=opened["frame"] + opened["gap"].clip(lower=1))
     last = opened.sort_values("start_seconds").groupby(TERM).last()
     if (last["due"] >= log.scenario.frames).any():
         return float("nan")

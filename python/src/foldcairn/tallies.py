@@ -13,9 +13,9 @@ import numpy as np
 import pandas as pd
 from numpy.typing import NDArray
 
-from . import arguments, counts, lines, results, served
+from . import arguments, counts, lines, moments, results, served
 from .events import Put
-from .receivers import HOSTS, Meant, Receivers, meant
+from .receivers import HOSTS, NO_HOST, Meant, Receivers, meant
 from .scenario import Scenario
 from .seeds import Question
 
@@ -109,15 +109,11 @@ def packets_meant(scenario: Scenario, whom: Meant, without: int | None = None) -
     )
 
 
-def latency_seconds(profile: int, frames: Numbers) -> Numbers:
-    """The time from the start of a frame to the end of the last data slot that the round of the `frames`-th frame after it may have."""
-    slots = (1 + lines.DATA_SLOTS) * lines.slot_ticks(profile) / results.TICKS_A_SECOND
-    return frames * lines.frame_seconds(profile) + results.ROUND_SECONDS + slots
-
-
-def asks_for_deliveries(scenario: Scenario, whom: Meant) -> bool:
-    """Whether the counts of a seed do not tell what arrived: which of several hosts served, or which packets keep a stream alive."""
-    return bool(scenario.keep_alive) or (HOSTS in whom.by_stream.values() and len(scenario.hosts) > 1)
+def most_seconds(scenario: Scenario, frames: Places, early: Numbers) -> Numbers:
+    """The time from a put to a delivery in the `frames`-th frame after that in which it was handed over, at most: by then the last data slot
+    ends that the round of that frame may have, by plan and by the slowest clock, and the put was given `early` seconds before its frame."""
+    round_seconds = results.ROUND_SECONDS + (1 + lines.DATA_SLOTS) * lines.slot_ticks(scenario.profile) / results.TICKS_A_SECOND
+    return frames * float(scenario.frame_seconds) + round_seconds + moments.late_seconds(scenario) + early
 
 
 @dataclass(frozen=True)
@@ -125,7 +121,8 @@ class Arrivals:
     """What was put and what arrived in some seeds, at nodes that it was meant for.
 
     streams, nodes   the streams, each by its source and number, and the nodes that some stream is meant for
-    put              how many pairs of a packet and a receiver there are, by seed, stream and node
+    put              how many pairs of a packet and a receiver there are, by seed, stream and node; the last place is for packets that
+                     are meant for whichever host serves, and were never sent
     table            a row for each latency: `place` of the seed, of the stream (`group`), and of the node (`at`), `frames` and `count`
     """
 
@@ -138,9 +135,10 @@ class Arrivals:
         """The part of what was put that was delivered, of each seed, where one node is neither a source nor a receiver; missing where
         nothing was put."""
         table = self.table
-        place = (table["place"] * len(self.streams) + table["group"]) * len(self.nodes) + table["at"]
+        _, streams, places = self.put.shape
+        place = (table["place"] * streams + table["group"]) * places + table["at"]
         delivered = np.bincount(place, table["count"], self.put.size).reshape(self.put.shape)
-        kept = np.outer([source != without for source, _ in self.streams], [node != without for node in self.nodes])
+        kept = np.outer([source != without for source, _ in self.streams], [node != without for node in (*self.nodes, NO_HOST)])
         whole = (self.put * kept).sum(axis=(1, 2))
         found: Numbers = (delivered * kept).sum(axis=(1, 2)) / np.where(whole > 0, whole, np.nan)
         return found
@@ -148,36 +146,47 @@ class Arrivals:
 
 def arrivals(scenario: Scenario, receivers: Receivers, seeds: Sequence[int], found: counts.Counts | None = None) -> Arrivals:
     """What arrived with the losses of these seeds, which follow each other: by the counts of the program's `sample`, which may be given, or
-    where these do not tell (`asks_for_deliveries`), by the deliveries of each seed. Raises what `program.execute` raises."""
+    where packets keep streams alive, which these count too, by the deliveries of each seed. Raises what `program.execute` raises."""
     whom = meant(scenario, receivers)
-    if asks_for_deliveries(scenario, whom):
+    if scenario.keep_alive:
         return _by_deliveries(scenario, whom, seeds)
     return _by_counts(counts.of(scenario, seeds[0], len(seeds)) if found is None else found, whom)
 
 
 def _by_counts(found: counts.Counts, whom: Meant) -> Arrivals:
+    """The rule of `receivers` by the counts of `sample`."""
     streams, nodes = _places(whom)
-    (host,) = found.scenario.hosts.values() if HOSTS in whom.by_stream.values() else (0,)
-    is_meant = np.zeros((len(streams), len(nodes)), dtype=bool)
+    is_meant = np.zeros((len(streams), len(nodes) + 1), dtype=bool)
     for stream, who in whom.by_stream.items():
-        for node in ({host} if isinstance(who, str) else who) - {stream[0]}:
+        for node in (who if not isinstance(who, str) else set(whom.scenario.hosts.values())) - {stream[0]}:
             is_meant[streams[stream], nodes[node]] = True
-    put = np.zeros((len(found.seeds), len(streams)))
-    put[_seed_of(found.puts, found.seeds), _stream_of(found.puts, streams)] = found.puts["put"]
-    table = found.latencies
-    group, at = _stream_of(table, streams), pd.Series(nodes, dtype="int64").reindex(table["node"]).fillna(-1).to_numpy(dtype="int64")
-    kept = (at >= 0) & is_meant[group, at]
-    parts = {"place": _seed_of(table, found.seeds), "group": group, "at": at, "frames": table["frames"].to_numpy(), "count": table["count"].to_numpy()}
-    return Arrivals(list(streams), list(nodes), put[..., None] * is_meant, pd.DataFrame({name: part[kept] for name, part in parts.items()}))
+    to_hosts = np.array([who == HOSTS for who in whom.by_stream.values()], dtype=bool)
+
+    def placed(table: pd.DataFrame, of_hosts: bool) -> pd.DataFrame:
+        """The rows that count, of streams that are meant for the hosts or of the others, by their places."""
+        group, at = _stream_of(table, streams), table["node"].map(nodes).fillna(-1).to_numpy(dtype="int64")
+        rows = table.assign(place=_seed_of(table, found.seeds), group=group, at=at)
+        return rows[(at >= 0) & is_meant[group, at] & (to_hosts[group] == of_hosts)]
+
+    packets, sent = np.zeros((2, len(found.seeds), len(streams)))
+    puts = _seed_of(found.puts, found.seeds), _stream_of(found.puts, streams)
+    packets[puts], sent[puts] = found.puts["put"], found.puts["sent"]
+    put = packets[..., None] * (is_meant & ~to_hosts[:, None])
+    put[..., -1] = (packets - sent) * to_hosts
+    hosted = placed(found.hosted, True)
+    put[hosted["place"], hosted["group"], hosted["at"]] = hosted["count"]
+    came = pd.concat([placed(found.latencies, False), placed(found.hosts, True)], ignore_index=True)
+    return Arrivals(list(streams), list(nodes), put, came[["place", "group", "at", "frames", "count"]])
 
 
 def _by_deliveries(scenario: Scenario, whom: Meant, seeds: Sequence[int]) -> Arrivals:
     streams, nodes = _places(whom)
-    put = np.zeros((len(seeds), len(streams), len(nodes)))
+    put = np.zeros((len(seeds), len(streams), len(nodes) + 1))
     tables = []
     for place, seed in enumerate(seeds):
         found = served.of(scenario, whom, seed)
-        np.add.at(put[place], (_stream_of(found.put, streams), found.put["node"].map(nodes).to_numpy(dtype="int64")), 1)
+        at = found.put["node"].map({**nodes, NO_HOST: len(nodes)}).to_numpy(dtype="int64")
+        np.add.at(put[place], (_stream_of(found.put, streams), at), 1)
         came = found.arrived
         parts = {"place": place, "group": _stream_of(came, streams), "at": came["node"].map(nodes), "frames": came["frames"], "count": 1}
         tables.append(pd.DataFrame(parts))
@@ -211,33 +220,30 @@ def tally(found: counts.Counts, receivers: Receivers, deadline: float | None) ->
     """The answer to `question` of each seed of some counts."""
     scenario, seeds = found.scenario, found.seeds
     came = arrivals(scenario, receivers, seeds, found)
-    table, most = came.table, -1 if deadline is None else _frames_within(scenario.profile, deadline)
+    given = moments.early_seconds(scenario)
+    early = np.array([given.get(stream, 0.0) for stream in came.streams], dtype=np.float64)
+    table = came.table.assign(seconds=most_seconds(scenario, came.table["frames"].to_numpy(), early[came.table["group"].to_numpy()]))
     groups = {
-        "stream": (table["group"], came.put.sum(axis=2)), "node": (table["at"], came.put.sum(axis=1)),
+        "stream": (table["group"], came.put.sum(axis=2)), "node": (table["at"], came.put.sum(axis=1)[:, :-1]),
         "all": (0 * table["group"], came.put.sum(axis=(1, 2))[:, None]),
     }  # fmt: skip
-    told = {by: _numbers(table, group.to_numpy(), put, most, scenario.profile) for by, (group, put) in groups.items()}
+    told = {by: _numbers(table, group.to_numpy(), put, deadline) for by, (group, put) in groups.items()}
     told["fates"] = found.puts[_FATES].to_numpy().reshape(len(seeds), -1, len(_FATES))
     told["cost"] = found.cost[_COST].to_numpy().reshape(len(seeds), -1, len(_COST))
     return [{name: part[place].tolist() for name, part in told.items()} for place in range(len(seeds))]
 
 
-def _frames_within(profile: int, deadline: float) -> int:
-    """The most frames of a latency within a deadline; -1 where none is."""
-    first = float(latency_seconds(profile, np.zeros(1))[0])
-    return max(-1, int((deadline - first + _LITTLE) // lines.frame_seconds(profile)))
-
-
-def _numbers(table: pd.DataFrame, group: Places, put: Numbers, most: int, profile: int) -> NDArray[Any]:
-    """The numbers of each seed and group, in the order of `_NUMBERS`: an array by seed, number and group."""
+def _numbers(table: pd.DataFrame, group: Places, put: Numbers, deadline: float | None) -> NDArray[Any]:
+    """The numbers of each seed and group, in the order of `_NUMBERS`: an array by seed, number and group. The table has `place`, that of the
+    seed, and the `seconds` and the `count` of deliveries."""
     seeds, groups = put.shape
-    width = int(table["frames"].max()) + 1 if len(table) else 1
-    place = (table["place"].to_numpy() * groups + group) * width + table["frames"].to_numpy()
-    counted = np.bincount(place, table["count"].to_numpy(), seeds * groups * width).reshape(seeds, groups, width)
-    by_then = counted.cumsum(axis=2)
-    delivered = by_then[..., -1]
-    in_time = by_then[..., min(most, width - 1)] if most >= 0 else np.zeros_like(delivered)
-    # The least latency that the part of all deliveries does not exceed.
-    reached = [(by_then < part * delivered[..., None] - _LITTLE).sum(axis=2) for part in (0.5, 0.9)]
-    times = [np.where(delivered > 0, latency_seconds(profile, frames.astype(np.float64)), np.nan) for frames in reached]
-    return np.stack([put, delivered, in_time, *times], axis=1)
+    cell = table["place"].to_numpy() * groups + group
+    order = np.lexsort((table["seconds"].to_numpy(), cell))
+    cell, seconds, count = cell[order], table["seconds"].to_numpy()[order], table["count"].to_numpy(dtype=np.float64)[order]
+    delivered = np.bincount(cell, count, seeds * groups)
+    in_time = np.bincount(cell, count * (seconds <= (-1.0 if deadline is None else deadline) + _LITTLE), seeds * groups)
+    # The least latency that the part of all deliveries does not exceed, among those of a cell, which follow each other.
+    by_then, before = count.cumsum(), delivered.cumsum() - delivered
+    reached = [np.searchsorted(by_then, before + part * delivered - _LITTLE) for part in (0.5, 0.9)]
+    times = [np.where(delivered > 0, np.append(seconds, np.nan)[np.minimum(place, len(seconds))], np.nan) for place in reached]
+    return np.stack([put, *(one.reshape(seeds, groups) for one in (delivered, in_time, *times))], axis=1)
