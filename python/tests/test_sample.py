@@ -143,8 +143,10 @@ def test_shares_near_1_are_no_surer_than_their_packets_are_many(pool: Executor) 
     assert planning.sample(network.copy().pair(1, 3, 0.3), range(4), receivers=[1], executor=pool, progress=False).remarks() == [seeds]
 
 
-@pytest.mark.parametrize("whom", ["all", [1], "hosts", {3: [1, 2], "others": "hosts"}])
-def test_of_how_many_packets_shares_are(whom: Any, pool: Executor) -> None:
+@pytest.mark.parametrize(
+    ("whom", "receivers"), [("all", {1: 2, 3: 2}), ([1], {3: 1}), ("hosts", {1: 1, 3: 1}), ({3: [1, 2], "others": "hosts"}, {1: 1, 3: 2})]
+)
+def test_of_how_many_packets_shares_are(whom: Any, receivers: dict[int, int], pool: Executor) -> None:
     """A packet counts once however many receivers it has, at each node as one, and not if it only keeps a stream alive."""
     network = Scenario(30).node(1).node(2).node(3).host(0, 1).host(1, 2).pair(1, 2, 0.8).pair(1, 3, 0.8).pair(2, 3, 0.8).on()
     network.stream(1, 8).every(40, 1).stream(3, 8, keep_alive=20).every(30, 3, b"a").off(1, frame=20)
@@ -153,7 +155,8 @@ def test_of_how_many_packets_shares_are(whom: Any, pool: Executor) -> None:
     for seed in (1, 2, 3):
         rows = planning.delivery_ratio(results.outcome(network, seed, warn=False), "pair", receivers=whom)
         wanted.update({("node", row.node): row.put for row in rows.groupby("node", as_index=False)["put"].sum().itertuples()})
-        wanted.update({("stream", source): rows.loc[rows["source"] == source, "put"].max() for source in rows["source"].unique()})
+        streams = planning.delivery_ratio(results.outcome(network, seed, warn=False), receivers=whom)
+        wanted.update({("stream", row.source): row.put // receivers[row.source] for row in streams.itertuples() if row.source in receivers})
     for by, name in (("stream", "source"), ("node", "node")):
         told = {(by, row[name]): row["packets"] for _, row in found.delivery_ratio(by).iterrows() if row["packets"]}
         assert told == {key: put for key, put in wanted.items() if key[0] == by and put}

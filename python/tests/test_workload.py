@@ -20,8 +20,8 @@ NODES = {node: 0 for node in range(1, 9)}
         # Frames of 4 s: the gaps are 8 and 12 s, and 4 and 8 s.
         (1, [(10, 0), (10, 3), (5.5, 0)], [(2, "10", "100"), (1, "5.5", "182")]),
         (1, [(12, 0), (60, 0), (60, 30)], [(2, "60", "17"), (1, "12", "84")]),
-        # Several packets a frame, and a few packets that fit the period of others.
-        (1, [(0.5, 0)], [(1, "0.5", "2000")]),
+        # Several packets a frame, up to the start of the last one at 996 s, and a few packets that fit the period of others.
+        (1, [(0.5, 0)], [(1, "0.5", "1993")]),
         (1, [(10, 0), (10, 975)], [(2, "10", "3 to 100")]),
     ],
 )
