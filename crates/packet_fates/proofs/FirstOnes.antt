@@ -1,13 +1,12 @@
 -- Of several values of a packet the first, and their number.
-use Rattle.std.proofs.Common.{◌≡◌, ◌∷◌, [], ◌+◌, ◌<◌, ◌++◌, ◌^◌, ℕ, List, Bool, true, false, cond, if◌then◌else◌, Option, Some, None, find, get_or, length}
-use Rattle.std.proofs.Common.{take, count_by, unwrap_or, is_some, add-zero, refl, sym, ◌∙◌, ap, ⊎_elim, arith}
+use Rattle.std.proofs.Common.{◌≡◌, ◌∷◌, [], ◌+◌, ◌<◌, ◌++◌, ℕ, List, Bool, true, false, cond, if◌then◌else◌, Option, Some, None, find, get_or, length}
+use Rattle.std.proofs.Common.{take, count_by, is_some, refl, sym, ◌∙◌, ap, ⊎_elim}
 use Rattle.std.proofs.lemmas.Bool.{cases_Bool, false≢true}
-use Rattle.std.proofs.lemmas.List.{length-take-le, take_more}
-use Rattle.std.proofs.lemmas.List.Sums.{count_by-le-length, sum_by_push}
+use Rattle.std.proofs.lemmas.List.{take_more}
+use Rattle.std.proofs.lemmas.List.Sums.{sum_by_push}
 use Rattle.std.proofs.lemmas.List.Folds.{find-append}
 use Rattle.std.specs.Option.{option_or}
 use Rattle.std.specs.BTreeMap.{is_at}
-use Rattle.std.specs.Map.{count_at}
 use Rattle.bus_terms.specs.Fates.{is_packet}
 use Rattle.bus_terms.specs.declared.packets.PacketId.{PacketId}
 use Rattle.packet_fates.specs.PacketOrder.{packet_cmp}

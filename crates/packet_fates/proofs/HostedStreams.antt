@@ -1,8 +1,8 @@
 -- The packets of streams that were sent in rounds of hosts, counted.
 use Rattle.std.proofs.Common.{◌≡◌, ◌==◌, ◌&&◌, ◌∷◌, [], ◌+◌, ◌++◌, ℕ, List, Bool, true, false, cond, Option, Some, None, filter, flat_map, map, nat_lt}
-use Rattle.std.proofs.Common.{slice_get, add-zero, refl, sym, ◌∙◌, ap}
+use Rattle.std.proofs.Common.{add-zero, refl, sym, ◌∙◌, ap}
 use Rattle.std.proofs.lemmas.Bool.{and_parts, eqb-true}
-use Rattle.std.specs.BTreeMap.{BTreeMap, get, is_at}
+use Rattle.std.specs.BTreeMap.{BTreeMap, is_at}
 use Rattle.std.specs.Cmp.{both_tied, unsigned_ties}
 use Rattle.std.specs.Map.{count_at}
 use Rattle.std.specs.Option.{option_map_or}

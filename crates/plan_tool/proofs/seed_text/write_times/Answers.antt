@@ -1,4 +1,4 @@
-use Rattle.std.proofs.Common.{◌≡◌, ◌++◌, List, ℕ, append_assoc, flat_map, refl, ◌∙◌, ap, string_bytes}
+use Rattle.std.proofs.Common.{◌≡◌, ◌++◌, List, ℕ, append_assoc, flat_map, ◌∙◌, ap, string_bytes}
 use Rattle.scenario_text.specs.ScenarioParts.{ScenarioParts}
 use Rattle.bus_terms.specs.Fates.{host_latency_counts, latency_counts}
 use Rattle.bus_terms.specs.OverLines.{IsOverScenario, over}
