@@ -34,16 +34,17 @@ worked_network() {
 
 # The fates of seed 7, and the latencies of seed 8, were worked out outside, by a plain program of the rules and of the coins: in seed 8
 # two packets reach both other nodes, 3 and 9 frames after they were put, and the third reaches nobody. The rounds are in frames 1, 5, 9 and so
-# on, so the first packet is sent in frame 9, the second in frame 13 and the third in one of the last three rounds.
+# on, so the first packet is sent in frame 9, the second in frame 13 and the third in one of the last three rounds, all of rank 0. Its host is
+# node 1, which is one of the two that receive the first two packets.
 worked_fates() {
     local line="$top/tests/worked/three-in-a-line.network"
     "$program" fates 7 < "$line" > "$folder/out"
     status=$?
     ends "the fates of seed 7 of three in a line" 0 $'put 0 3 0 1 0 waiting\nput 10 3 0 1 1 waiting\nput 20 3 0 1 2 waiting\n'
-    "$program" fates 8 < "$line" | sed 's/ sent 2[159] 1 0$/ sent late 1 0/' > "$folder/out"
+    "$program" fates 8 < "$line" | sed 's/ sent 2[159] 0 1 0 0$/ sent late 0 1 0 0/' > "$folder/out"
     status=0
     ends "the fates of seed 8 of three in a line" 0 \
-        $'put 0 3 0 1 0 sent 9 1 2\nput 10 3 0 1 1 sent 13 1 2\nput 20 3 0 1 2 sent late 1 0\n'
+        $'put 0 3 0 1 0 sent 9 0 1 2 1\nput 10 3 0 1 1 sent 13 0 1 2 1\nput 20 3 0 1 2 sent late 0 1 0 0\n'
     # No round is before frame 1, and nobody has a slot before frame 5.
     run_on "${base}frames 4"$'\nput 0 2 0 aa\n'"${two_on}"'put 0 2 0 aa
 stream 0 2 0 8
@@ -69,11 +70,52 @@ put 3 2 0 2 0 waiting
 '
 }
 
-# The counts, latencies and costs of two seeds were worked out outside, by a plain program of the rules and of the coins.
+# Host 1 fails in frame 1. Host 2 searches for it in frames 0 to 11 and for its own rank to frame 16, so it opens its first round in frame
+# 17 and the next one in frame 21, in which it and node 3 send. The two receive each other: the packet of node 3 is delivered at the host of
+# rank 1, and that of node 2 is not, since it hosts that round itself.
+worked_hosts() {
+    local two
+    two=$'frames 22\nsends 2\nnode 1 0\nnode 2 0\nnode 3 0\nhost 0 1\nhost 1 2\npair 1 2\npair 1 3\npair 2 3\n'
+    two+="${two_on}"$'on 0 3\nstream 0 2 0 4\nput 0 2 0 aa\nstream 0 3 0 4\nput 0 3 0 bb\noff 1 1\n'
+    run_on "$two" outcome 0
+    grep '^deliver' "$folder/out" > "$folder/lines"
+    mv "$folder/lines" "$folder/out"
+    ends "deliveries of a backup host that sends" 0 $'deliver 21 1 1 3 2 1 0 0 aa\ndeliver 21 1 5 2 3 1 0 0 bb\n'
+    run_on "$two" fates 0
+    ends "fates of a backup host that sends" 0 $'put 0 2 0 1 0 sent 21 1 1 1 0\nput 0 3 0 1 0 sent 21 1 5 1 1\n'
+    run_on "$two" sample 0 1
+    grep -v '^cost' "$folder/out" > "$folder/lines"
+    mv "$folder/lines" "$folder/out"
+    ends "sample of a backup host that sends" 0 $'seed 0\nputs 2 0 1 0 1 0 0\nputs 3 0 1 0 1 0 0\nhosted 2 0 2 1\nhosted 3 0 2 1
+latency 2 0 3 21 1\nlatency 3 0 2 21 1\nhost 3 0 2 21 1\n'
+    # Node 2 receives what node 3 sends in frame 9, and host 1 does not.
+    run_on 'frames 10
+sends 2
+node 1 0
+node 2 0
+node 3 0
+host 0 1
+pair 1 2
+pair 1 3
+pair 2 3
+'"${two_on}"'on 0 3
+stream 0 3 0 4
+put 0 3 0 aa
+lose 9 1 0 3 1
+lose 9 1 1 2 1
+lose 9 1 2 3 1
+lose 9 1 3 2 1
+' fates 0
+    ends "a packet that another node than the host receives" 0 $'put 0 3 0 1 0 sent 9 0 1 1 0\n'
+}
+
+# The counts, latencies and costs of two seeds were worked out outside, by a plain program of the rules and of the coins. All that is sent in
+# seed 8 is sent in rounds of node 1, and what node 1 receives is what a host receives.
 worked_sample() {
     local line="$top/tests/worked/three-in-a-line.network" seven eight
     seven=$'seed 7\nputs 3 0 3 0 0 3 0\ncost 1 811008 28841344 5\ncost 2 552960 30585600 10\ncost 3 325632 27545472 14\n'
-    eight=$'seed 8\nputs 3 0 3 0 3 0 0\nlatency 3 0 1 3 1\nlatency 3 0 1 9 1\nlatency 3 0 2 3 1\nlatency 3 0 2 9 1\n'
+    eight=$'seed 8\nputs 3 0 3 0 3 0 0\nhosted 3 0 1 3\nlatency 3 0 1 3 1\nlatency 3 0 1 9 1\nlatency 3 0 2 3 1\nlatency 3 0 2 9 1\n'
+    eight+=$'host 3 0 1 3 1\nhost 3 0 1 9 1\n'
     eight+=$'cost 1 1134592 46748032 5\ncost 2 1093632 44741632 10\ncost 3 923648 47950592 18\n'
     "$program" sample 7 2 < "$line" > "$folder/out"
     status=$?
@@ -84,6 +126,11 @@ worked_sample() {
     "$program" sample 8 0 < "$line" > "$folder/out"
     status=$?
     ends "no seed" 0 ""
+}
+
+# hosts_of FILE: the rank and the node of each host.
+hosts_of() {
+    awk '$1 == "ratios" { exit } $1 == "host" { print $2, $3 }' "$1"
 }
 
 # The first seeds and the others are all seeds. Of each seed, the puts of a stream with each fate are the lines of fates, the packets
@@ -108,18 +155,29 @@ samples_are_fates() {
         awk '$1 == "deliver" { count[$6 " " $8 " " $5]++ } END { for (of in count) print of, count[of] }' "$folder/report" | LC_ALL=C sort > "$folder/wanted"
         awk '$1 == "latency" { count[$2 " " $3 " " $4] += $6 } END { for (of in count) print of, count[of] }' "$folder/sample" | LC_ALL=C sort > "$folder/out"
         says "sample of $(basename "$file"): latencies are not the deliveries" cmp -s "$folder/wanted" "$folder/out"
+        hosts_of "$file" > "$folder/hosts"
+        awk 'NR == FNR { host[$1] = $2; next } $1 == "deliver" && host[$3] == $5 { count[$6 " " $8 " " $5]++ } END { for (of in count) print of, count[of] }' \
+            "$folder/hosts" "$folder/report" | LC_ALL=C sort > "$folder/wanted"
+        awk '$1 == "host" { count[$2 " " $3 " " $4] += $6 } END { for (of in count) print of, count[of] }' "$folder/sample" | LC_ALL=C sort > "$folder/out"
+        says "sample of $(basename "$file"): latencies of hosts are not their deliveries" cmp -s "$folder/wanted" "$folder/out"
+        "$program" fates 3 < "$file" | awk 'NR == FNR { host[$1] = $2; next } $7 == "sent" { count[$3 " " $4 " " host[$9]]++ } END { for (of in count) print of, count[of] }' \
+            "$folder/hosts" - | LC_ALL=C sort > "$folder/wanted"
+        sed -n 's/^hosted //p' "$folder/sample" | LC_ALL=C sort > "$folder/out"
+        says "sample of $(basename "$file"): not sent in the rounds of the hosts" cmp -s "$folder/wanted" "$folder/out"
     done
 }
 
-# What is sent, with its receivers, is what the outcome delivers; what is dropped, what it drops.
+# What is sent, with its receivers and whether the host of its rank is one, is what the outcome delivers; what is dropped, what it drops.
 fates_are_outcomes() {
     local file
     for file in "$top"/tests/worked/*.network "$top"/examples/*.scenario "$top"/tests/worked/*.scenario; do
         "$program" outcome 3 < "$file" > "$folder/report"
         "$program" fates 3 < "$file" > "$folder/fates"
-        awk '$1 == "deliver" { count[$2 " " $6 " " $8 " " $7 " " $9 " " $4]++ } END { for (packet in count) print packet, count[packet] }' "$folder/report" \
-            | LC_ALL=C sort > "$folder/wanted"
-        awk '$7 == "sent" && $10 > 0 { print $8, $3, $4, $5, $6, $9, $10 }' "$folder/fates" | LC_ALL=C sort > "$folder/out"
+        hosts_of "$file" > "$folder/hosts"
+        awk 'NR == FNR { host[$1] = $2; next }
+            $1 == "deliver" { of = $2 " " $6 " " $8 " " $7 " " $9 " " $3 " " $4; count[of]++; at_host[of] += host[$3] == $5 }
+            END { for (of in count) print of, count[of], at_host[of] }' "$folder/hosts" "$folder/report" | LC_ALL=C sort > "$folder/wanted"
+        awk '$7 == "sent" && $11 > 0 { print $8, $3, $4, $5, $6, $9, $10, $11, $12 }' "$folder/fates" | LC_ALL=C sort > "$folder/out"
         says "fates of $(basename "$file"): what is sent is not what is delivered" cmp -s "$folder/wanted" "$folder/out"
         sed -n 's/^drop //p' "$folder/report" > "$folder/wanted"
         sed -n 's/^put \([0-9]* [0-9]* [0-9]*\) dropped$/\1/p' "$folder/fates" > "$folder/out"
@@ -234,7 +292,8 @@ known_losses() {
 
 refused_words() {
     local words
-    for words in outcomes outcome "outcome 7 8" "outcome 07" "outcome -7" "outcome 7x" "outcome 10000000000000" run "sample 7" "sample 7 8 9" "sample 07 1" "sample 7 x" "sample 7 10000000000000" "7 outcome" \
+    for words in outcomes outcome "outcome 7 8" "outcome 07" "outcome -7" "outcome 7x" "outcome 10000000000000" run "sample 7" "sample 7 8 9" "sample 07 1" "sample 7 x" "sample 7 10000000000000" "sample 9999999999999 2" \
+        "sample 2 9999999999999" "7 outcome" \
         drawn draw "draw 7 8" "draw 07" "draw 10000000000000" "7 draw" "draw outcome" \
         fates "fates 7 8" "fates 07" "fates 10000000000000"; do
         # Each word is one of the program's.
@@ -247,6 +306,8 @@ refused_words() {
     ends "an empty seed" 2 "$usage"
     run_on "${base}frames 1"$'\n' outcome 9999999999999
     ends "the greatest seed" 0 $'cost 1 0 0 0\ncost 2 0 0 0\n'
+    run_on "${base}frames 1"$'\n' sample 9999999999999 1
+    ends "a sample of the greatest seed" 0 $'seed 9999999999999\ncost 1 0 0 0\ncost 2 0 0 0\n'
 }
 
 # rejects NAME LINE KIND TEXT: whether the text's first fault is that, for each command.
@@ -458,6 +519,7 @@ by_both() {
 count_calls
 worked_network
 worked_fates
+worked_hosts
 fates_are_outcomes
 worked_sample
 samples_are_fates

@@ -12,6 +12,6 @@ pub use flood_laws::{
     accepts_by_distance, accepts_by_the_least_relay_path, accepts_the_first_hearing,
 };
 pub use packets::{
-    Fate, Latency, LatencyCount, PacketId, PutFate, PutLine, SentPacket, StreamCounts,
+    Fate, HostedCount, Latency, LatencyCount, PacketId, PutFate, PutLine, SentPacket, StreamCounts,
 };
 pub use round_laws::{data_is_received_by_relay_paths, ranks_go_in_any_order};

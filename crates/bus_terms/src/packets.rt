@@ -47,11 +47,14 @@ pub enum Fate {
     Cleared {
         frame: u32,
     },
-    /// It was sent in this frame and slot, and this number of nodes delivered it.
+    /// It was sent in the round of this frame and rank, in this slot. This number of nodes delivered it, and among them is the
+    /// host of the rank, or not.
     Sent {
         frame: u32,
+        rank: Rank,
         slot: u8,
         receivers: u32,
+        at_host: bool,
     },
 }
 
@@ -93,4 +96,16 @@ pub struct StreamCounts {
     pub sent: u32,
     pub waiting: u32,
     pub cleared: u32,
+}
+
+/// How many packets of a stream were sent in rounds of one host.
+#[derive(Clone, Copy, Debug, PartialEq, Eq)]
+pub struct HostedCount {
+    pub node: NodeId,
+    /// 0 to 3.
+    pub stream: u8,
+    /// The host.
+    pub at: NodeId,
+    /// At least 1.
+    pub count: u32,
 }

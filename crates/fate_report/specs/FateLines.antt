@@ -1,5 +1,5 @@
 -- The lines of what became of each packet that the script puts.
-use Rattle.std.specs.Prelude.{ℕ, List, [], ◌∷◌, ◌++◌, Some, None, codes, decimal, flat_map, map}
+use Rattle.std.specs.Prelude.{ℕ, List, [], ◌∷◌, ◌++◌, Some, None, codes, decimal, flat_map, if◌then◌else◌, map}
 use Rattle.std.specs.declared.option.Option.{Option}
 use Rattle.text_writers.specs.Lines.{line_text, numbered}
 use Rattle.scenario_text.specs.ScenarioParts.{ScenarioParts}
@@ -22,7 +22,7 @@ abbrev pub fate_words : Fate → List (List ℕ)
 fate_words Dropped = numbered (codes "dropped") []
 fate_words Waiting = numbered (codes "waiting") []
 fate_words (Cleared f) = numbered (codes "cleared") (f ∷ [])
-fate_words (Sent f slot receivers) = numbered (codes "sent") (f ∷ slot ∷ receivers ∷ [])
+fate_words (Sent f rank slot receivers at_host) = numbered (codes "sent") (f ∷ rank ∷ slot ∷ receivers ∷ (if at_host then 1 else 0) ∷ [])
 
 abbrev pub fate_line : PutFate → List ℕ
 fate_line x = line_text (put_words x.put ++ packet_words x.put.packet ++ fate_words x.fate)

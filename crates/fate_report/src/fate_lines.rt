@@ -9,8 +9,9 @@ use bus_terms::{Fate, PacketId, PutFate, PutLine};
 use std::alloc::AllocError;
 use text_writers::{end_line, write_lines, write_number, write_words};
 
-/// Writes a line for each put line, with what became of its packet: `put FRAME NODE STREAM BOOT SEQ`, then `sent F SLOT COUNT`,
-/// `waiting` or `cleared F`; or `put FRAME NODE STREAM dropped`.
+/// Writes a line for each put line, with what became of its packet: `put FRAME NODE STREAM BOOT SEQ`, then
+/// `sent F RANK SLOT COUNT HOST`, `waiting` or `cleared F`; or `put FRAME NODE STREAM dropped`. HOST is 1 where the host of the
+/// rank delivered it, else 0.
 pub fn write_fates(text: &mut String, fates: &[PutFate]) -> Result<(), AllocError>
     ensures { OnOk result (string_bytes text.new ≡ string_bytes text.old ++ flat_map fate_line fates.now) }
 {
@@ -53,9 +54,16 @@ fn write_what_became(text: &mut String, fate: &Fate) -> Result<(), AllocError>
         Fate::Cleared { frame } => write_after(text, "cleared", &[*frame]),
         Fate::Sent {
             frame,
+            rank,
             slot,
             receivers,
-        } => write_after(text, "sent", &[*frame, u32::from(*slot), *receivers]),
+            at_host,
+        } => {
+            let rank = u32::from(rank.number());
+            let slot = u32::from(*slot);
+            let host = u32::from(*at_host);
+            write_after(text, "sent", &[*frame, rank, slot, *receivers, host])
+        }
     }
 }
 

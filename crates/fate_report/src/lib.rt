@@ -5,4 +5,4 @@ mod fate_lines;
 mod sample_lines;
 
 pub use fate_lines::write_fates;
-pub use sample_lines::{write_counts, write_latencies};
+pub use sample_lines::{write_counts, write_host_latencies, write_hosted, write_latencies};

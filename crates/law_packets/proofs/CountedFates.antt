@@ -17,7 +17,7 @@ one_fate true false fate = refl
 one_fate true true Dropped = refl
 one_fate true true Waiting = refl
 one_fate true true (Cleared frame) = refl
-one_fate true true (Sent frame slot receivers) = refl
+one_fate true true (Sent frame rank slot receivers at_host) = refl
 
 abbrev many : ℕ → ℕ → (Fate → Bool) → List PutFate → ℕ
 many v i test fates = count_by (of_stream v i test) fates

@@ -10,3 +10,4 @@ mod PutPackets
 mod UsedNumbers
 mod PutLines
 mod FatesOfPuts
+mod HostedSums

@@ -7,6 +7,6 @@
 mod packet_laws;
 
 pub use packet_laws::{
-    counts_add_up, deliveries_are_of_sent_packets, each_put_has_one_fate, packets_are_sent_once,
-    sent_packets_were_put,
+    counts_add_up, deliveries_are_of_sent_packets, each_put_has_one_fate, hosted_counts_add_up,
+    packets_are_sent_once, sent_packets_were_put,
 };

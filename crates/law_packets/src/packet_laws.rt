@@ -1,9 +1,11 @@
 //! Packets that are put, sent and delivered, each law a function that does nothing and has the law as its contract.
 
 ghost use Rattle.std.specs.Prelude.{◌≡◌, ◌+◌, ℕ, flat_map, map};
+ghost use Rattle.std.specs.List.{sum_by};
 ghost use Rattle.scenario_text.specs.ScenarioParts.{ScenarioParts};
 ghost use Rattle.bus_terms.specs.Bus.{bus_deliveries};
-ghost use Rattle.bus_terms.specs.Fates.{bus_fates, counts_of, deliveries_of};
+ghost use Rattle.bus_terms.specs.Fates.{bus_fates, counts_of, deliveries_of, hosted_of};
+ghost use Rattle.bus_terms.specs.OverLines.{IsOverScenario};
 ghost use Rattle.bus_terms.specs.Packets.{bus_puts, bus_sent};
 ghost use Rattle.law_packets.specs.Sendings.{AreOfSentPackets, AreQueuedOnce, AreSentInOrder, AreSentOnce, WerePut};
 
@@ -16,6 +18,11 @@ pub fn each_put_has_one_fate()
 pub fn counts_add_up()
     ensures { (s : ScenarioParts) (v i : ℕ) → (counts_of s v i).put
         ≡ (counts_of s v i).dropped + (counts_of s v i).sent + (counts_of s v i).waiting + (counts_of s v i).cleared }
+{}
+
+/// Each packet that is sent is sent in a round that one node hosts: the counts of a stream by host add up to its packets sent.
+pub fn hosted_counts_add_up()
+    ensures { (s : ScenarioParts) → IsOverScenario s → (v i : ℕ) → sum_by (λ h. h.count) (hosted_of s (counts_of s v i)) ≡ (counts_of s v i).sent }
 {}
 
 /// The packets that are sent, each with its deliveries, are the deliveries of the bus in their order, so each delivery is of

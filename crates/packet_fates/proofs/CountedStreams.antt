@@ -1,7 +1,7 @@
 -- The tally of streams, with one fate more and of all nodes.
 use Rattle.std.proofs.Common.{◌≡◌, ◌==◌, ◌&&◌, ◌∷◌, [], ◌+◌, ◌<◌, ◌++◌, ◌^◌, ℕ, List, Bool, true, false, cond, if◌then◌else◌, Option, Some, count_by, get_or}
 use Rattle.std.proofs.Common.{length, map, take, filter, flat_map, nat_lt, unwrap_or, add-zero, refl, sym, ◌∙◌, ap, subst, arith}
-use Rattle.std.proofs.lemmas.List.{append_assoc, length-take-le, map_more}
+use Rattle.std.proofs.lemmas.List.{length-take-le}
 use Rattle.std.proofs.lemmas.List.Elements.{filter-append}
 use Rattle.std.proofs.lemmas.Bool.{and_parts, eqb-true}
 use Rattle.std.proofs.lemmas.List.Sums.{count_by-le-length}
@@ -70,7 +70,7 @@ one_counted c true (Cleared frame) =
       waiting = add-zero c.waiting k;
       cleared = c.cleared + 1;
     }
-one_counted c true (Sent frame slot receivers) =
+one_counted c true (Sent frame rank slot receivers at_host) =
     λ k. record {
       node = c.node;
       stream = c.stream;
@@ -130,17 +130,6 @@ noted_at before after n m w f written is v j =
 
 abbrev pub some_put : StreamCounts → Bool
 some_put c = nat_lt 0 c.put
-
--- of one stream more
-pub streams_more : (f : ℕ → StreamCounts) (xs : List ℕ) (i : ℕ) (c : StreamCounts) (old counts next : List StreamCounts) → i < length xs → c ≡ f (get_or xs i 0)
-    → counts ≡ old ++ filter some_put (map f (take i xs)) → next ≡ counts ++ filter some_put (c ∷ []) → next ≡ old ++ filter some_put (map f (take (i + 1) xs))
-streams_more f xs i c old counts next below value is pushed =
-    let x = get_or xs i 0 in
-    pushed
-    ∙ (λ k. is k ++ filter some_put (value k ∷ []))
-    ∙ append_assoc old (filter some_put (map f (take i xs))) (filter some_put (f x ∷ []))
-    ∙ ap (λ (l : List StreamCounts). old ++ l) (sym (filter-append some_put (map f (take i xs)) (f x ∷ [])))
-    ∙ ap (λ (l : List StreamCounts). old ++ filter some_put l) (sym (map_more f xs i 0 below))
 
 -- of all nodes
 pub of_nodes : (f g : ℕ → ℕ → StreamCounts) (nodes : List NodeLine) → ((v j : ℕ) → f v j ≡ g v j)

@@ -1,7 +1,7 @@
 -- Each latency of a run is one of those that may be.
 use Rattle.std.proofs.Common.{◌≡◌, ◌+◌, ◌<◌, ◌∷◌, [], ℕ, List, Bool, true, false, cond, Option, Some, None, Contains, inl}
 use Rattle.std.proofs.Common.{inr, count_by, filter}
-use Rattle.std.proofs.Common.{find, flat_map, length, map, option_map, refl, sym, ◌∙◌, ap, subst, arith}
+use Rattle.std.proofs.Common.{filter_map, find, flat_map, length, map, option_map, refl, sym, ◌∙◌, ap, subst, arith}
 use Rattle.std.proofs.lemmas.Bool.{cond_both, false≢true}
 use Rattle.std.proofs.lemmas.List.Elements.{All-contains}
 use Rattle.std.proofs.lemmas.List.Sums.{length-filter}
@@ -24,7 +24,7 @@ use Rattle.bus_rules.specs.States.{IsAct, State, StateOff, StateOn}
 use Rattle.bus_rules.specs.Streams.{drops, stream_at}
 use Rattle.bus_terms.specs.Bus.{bus_deliveries, frames_of, ranks_of, state_at}
 use Rattle.bus_terms.specs.FloodOfText.{ids}
-use Rattle.bus_terms.specs.Fates.{all_latencies, bus_latencies, is_latency, latency_of, latency_since, packet_delivered, put_of, queues, streams}
+use Rattle.bus_terms.specs.Fates.{all_latencies, is_latency, latency_of, latency_since, packet_delivered, put_of, queues, streams}
 use Rattle.bus_terms.specs.OverLines.{IsOverScenario, over}
 use Rattle.bus_terms.specs.Packets.{bus_puts, put_at, put_by, queued_packet}
 use Rattle.bus_terms.specs.Rounds.{delivery_in_slot, round_deliveries, round_plan, slot_deliveries, slots_of}
@@ -128,13 +128,14 @@ module _ (s : ScenarioParts) (said : IsOverScenario s) where
       subst (λ (b : Latency). (Contains (ids s.nodes) b.node × Contains streams b.stream × Contains (ids s.nodes) b.at) × (b.frames < s.frames)) same
       ((put.0, put.1, made.1), (let early = made.0 in omega (arith, early)))
 
-  -- all that came are among those that may be
-  pub among_all : (a : Latency) → 0 < count_by (is_latency a) (bus_latencies s) → Contains (all_latencies s) a
-  among_all a some =
-      let came = counted_some (is_latency a) (bus_latencies s) some in
+  -- all that came of some deliveries of the bus are among those that may be
+  pub among_all : (ds : List Delivery) → ((d : Delivery) → Contains ds d → Contains (bus_deliveries s) d) → (a : Latency)
+      → 0 < count_by (is_latency a) (filter_map (latency_of s) ds) → Contains (all_latencies s) a
+  among_all ds among a some =
+      let came = counted_some (is_latency a) (filter_map (latency_of s) ds) some in
       let same = same_latency a came.0 came.2 in
-      let of = filter_from (latency_of s) (bus_deliveries s) came.0 came.1 in
-      let within = late_by of.0 came.0 (put_of s (packet_delivered of.0)) refl of.2 of.1 in
+      let of = filter_from (latency_of s) ds came.0 came.1 in
+      let within = late_by of.0 came.0 (put_of s (packet_delivered of.0)) refl of.2 (among of.0 of.1) in
       let b = came.0 in
       let frames = map_contains (latency b.node b.stream b.at) (frames_of s) b.frames
       (in_range 0 s.frames b.frames (omega arith) (let few = within.1 in omega (arith, few))) in

@@ -1,13 +1,12 @@
 -- Of several values of a packet the first, and their number.
-use Rattle.std.proofs.Common.{◌≡◌, ◌∷◌, [], ◌+◌, ◌<◌, ◌++◌, ◌^◌, ℕ, List, Bool, true, false, cond, if◌then◌else◌, Option, Some, None, find, get_or, length}
-use Rattle.std.proofs.Common.{take, count_by, unwrap_or, is_some, add-zero, refl, sym, ◌∙◌, ap, ⊎_elim, arith}
+use Rattle.std.proofs.Common.{◌≡◌, ◌∷◌, [], ◌+◌, ◌<◌, ◌++◌, ℕ, List, Bool, true, false, cond, if◌then◌else◌, Option, Some, None, find, get_or, length}
+use Rattle.std.proofs.Common.{take, count_by, is_some, refl, sym, ◌∙◌, ap, ⊎_elim}
 use Rattle.std.proofs.lemmas.Bool.{cases_Bool, false≢true}
-use Rattle.std.proofs.lemmas.List.{length-take-le, take_more}
-use Rattle.std.proofs.lemmas.List.Sums.{count_by-le-length, sum_by_push}
+use Rattle.std.proofs.lemmas.List.{take_more}
+use Rattle.std.proofs.lemmas.List.Sums.{sum_by_push}
 use Rattle.std.proofs.lemmas.List.Folds.{find-append}
 use Rattle.std.specs.Option.{option_or}
 use Rattle.std.specs.BTreeMap.{is_at}
-use Rattle.std.specs.Map.{count_at}
 use Rattle.bus_terms.specs.Fates.{is_packet}
 use Rattle.bus_terms.specs.declared.packets.PacketId.{PacketId}
 use Rattle.packet_fates.specs.PacketOrder.{packet_cmp}
@@ -25,7 +24,7 @@ pub count_more : {X : Type 0} (p : X → Bool) (xs : List X) (i : ℕ) (x : X) �
 count_more p xs i x below at =
     ap (count_by p) (take_more xs i x below ∙ ap (λ (y : _). take i xs ++ y ∷ []) (sym at)) ∙ sum_by_push (λ (y : _). cond (p y) 1 0) (take i xs) x
 
-packet_flips : (x y : PacketId) → is_packet x y ≡ false → is_packet y x ≡ false
+pub packet_flips : (x y : PacketId) → is_packet x y ≡ false → is_packet y x ≡ false
 packet_flips x y not = by_case (is_packet y x) refl
   where
     by_case : (b : Bool) → is_packet y x ≡ b → b ≡ false
@@ -79,38 +78,3 @@ module _ {T : Type 0} (before : PacketId → Option T) (k : PacketId) (v : T) wh
       elsewhere other =
           written_elsewhere before after k v written x other ∙ none_added (before x)
           ∙ ap (λ (b : Bool). option_or (before x) (if b then Some v else None)) (sym other)
-
--- ---- counts of packets
-
--- one more
-counted_one : (before after : PacketId → Option ℕ) (k : PacketId)
-    → ((x : PacketId) → after x ≡ cond (is_at (packet_cmp k) x) (Some (count_at before k + 1)) (before x))
-    → (x : PacketId) → count_at after x ≡ count_at before x + cond (is_packet x k) 1 0
-counted_one before after k written x = ⊎_elim here elsewhere (cases_Bool (is_packet x k))
-  where
-    here : is_packet x k ≡ true → count_at after x ≡ count_at before x + cond (is_packet x k) 1 0
-    here same =
-        ap (λ (y : PacketId). count_at after y) (same_packet x k same)
-        ∙ ap (λ (o : Option ℕ). unwrap_or o 0) (written_here before after k (count_at before k + 1) written)
-        ∙ ap (λ (y : PacketId). count_at before y + 1) (sym (same_packet x k same))
-        ∙ ap (λ (b : Bool). count_at before x + cond b 1 0) (sym same)
-
-    elsewhere : is_packet x k ≡ false → count_at after x ≡ count_at before x + cond (is_packet x k) 1 0
-    elsewhere other =
-        ap (λ (o : Option ℕ). unwrap_or o 0) (written_elsewhere before after k (count_at before k + 1) written x other)
-        ∙ sym (add-zero (count_at before x))
-        ∙ ap (λ (b : Bool). count_at before x + cond b 1 0) (sym other)
-
-module _ {X : Type 0} (packet : X → PacketId) (xs : List X) (i : ℕ) (before : PacketId → Option ℕ) (below : i < length xs)
-    (counted : (x : PacketId) → count_at before x ≡ count_by (λ d. is_packet x (packet d)) (take i xs)) where
-  pub room_of_packet : length xs < 2 ^ 32 → (x : PacketId) → count_at before x + 1 < 2 ^ 32
-  room_of_packet fits x =
-      omega (arith, counted x, count_by-le-length (λ d. is_packet x (packet d)) (take i xs), length-take-le i xs (omega arith))
-
-  pub counted_more : (d : X) (k : PacketId) (after : PacketId → Option ℕ) → d ≡ get_or xs i d → k ≡ packet d
-      → ((x : PacketId) → after x ≡ cond (is_at (packet_cmp k) x) (Some (count_at before k + 1)) (before x))
-      → (x : PacketId) → count_at after x ≡ count_by (λ d. is_packet x (packet d)) (take (i + 1) xs)
-  counted_more d k after at is written x =
-      counted_one before after k written x
-      ∙ (λ j. counted x j + cond (is_packet x (is j)) 1 0)
-      ∙ sym (count_more (λ d. is_packet x (packet d)) xs i d below at)

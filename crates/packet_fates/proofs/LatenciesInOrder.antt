@@ -1,5 +1,5 @@
 -- The entries of a tally are the latencies that came, in order.
-use Rattle.std.proofs.Common.{◌≡◌, ◌<◌, ℕ, List, [], ◌∷◌, Bool, true, false, cond, Some, None, count_by, filter}
+use Rattle.std.proofs.Common.{◌≡◌, ◌<◌, ℕ, List, [], ◌∷◌, Bool, true, false, cond, Some, None, Contains, count_by, filter}
 use Rattle.std.proofs.Common.{filter_map, map, nat_lt, ◌||◌, find, option_map}
 use Rattle.std.proofs.Common.{refl, sym, ◌∙◌, ap, subst, ⊎_elim}
 use Rattle.std.proofs.lemmas.Bool.{cases_Bool, ltb-true}
@@ -16,7 +16,8 @@ use Rattle.scenario_text.proofs.SoundScenarios.{sound}
 use Rattle.bus_rules.specs.declared.delivery.Delivery.{Delivery}
 use Rattle.bus_terms.specs.Bus.{bus_deliveries}
 use Rattle.bus_terms.specs.FloodOfText.{ids}
-use Rattle.bus_terms.specs.Fates.{all_latencies, bus_latencies, counted, is_latency, latency_counts, latency_of, latency_since, packet_delivered, queues}
+use Rattle.bus_terms.specs.Fates.{all_latencies, bus_latencies, counted, counts_among, host_latencies, is_at_host, is_latency, latency_of, latency_since}
+use Rattle.bus_terms.specs.Fates.{packet_delivered, queues}
 use Rattle.bus_terms.specs.OverLines.{IsOverScenario, over}
 use Rattle.bus_terms.specs.Packets.{bus_puts}
 use Rattle.bus_terms.specs.declared.packets.Latency.{Latency}
@@ -24,9 +25,10 @@ use Rattle.bus_terms.specs.declared.packets.LatencyCount.{LatencyCount}
 use Rattle.bus_terms.specs.declared.packets.PacketId.{PacketId}
 use Rattle.bus_terms.specs.declared.packets.PutLine.{PutLine}
 use Rattle.bus_terms.proofs.ListsInTurn.{pairs_in_turn}
-use Rattle.packet_fates.specs.Latencies.{IsTallyOf, count_of_entry, latency_by, latency_cmp}
+use Rattle.packet_fates.specs.Latencies.{IsTallyOf, count_of_entry, host_latency_by, latency_by, latency_cmp}
 use Rattle.packet_fates.specs.PacketOrder.{packet_cmp}
 use Rattle.packet_fates.proofs.DeliveredLatencies.{among_all}
+use Rattle.packet_fates.proofs.KeptOnes.{given_by_kept}
 use Rattle.packet_fates.proofs.LatencyOrders.{latency_exact, latency_itself, latency_tied, latency_total, same_latency}
 use Rattle.packet_fates.proofs.SameEntries.{same_entries}
 use Rattle.packet_fates.proofs.OrderedLatencies.{latencies_climb, sorted_climb}
@@ -52,9 +54,13 @@ module _ (f : Latency → ℕ) where
       by_test false is rest = rest
 
 module _ (s : ScenarioParts) (said : IsOverScenario s) (tally : BTreeMap Latency ℕ) (ordered : IsOrdered latency_cmp tally)
-    (tallied : IsTallyOf (bus_latencies s) tally) where
+    (ds : List Delivery) (among : (d : Delivery) → Contains ds d → Contains (bus_deliveries s) d)
+    (tallied : IsTallyOf (filter_map (latency_of s) ds) tally) where
+  abbrev came_late : List Latency
+  came_late = filter_map (latency_of s) ds
+
   abbrev number : Latency → ℕ
-  number a = count_by (is_latency a) (bus_latencies s)
+  number a = count_by (is_latency a) came_late
 
   abbrev came : Latency → Bool
   came a = nat_lt 0 (number a)
@@ -75,7 +81,8 @@ module _ (s : ScenarioParts) (said : IsOverScenario s) (tally : BTreeMap Latency
       in_kept : came a ≡ true → came a ≡ list_any (is_latency a) kept
       in_kept is =
           is
-          ∙ sym (any_of (is_latency a) kept a (in_filtered came (all_latencies s) a (among_all s said a (ltb-true 0 (number a) is)) is) (latency_itself a))
+          ∙ sym (any_of (is_latency a) kept a (in_filtered came (all_latencies s) a (among_all s said ds among a (ltb-true 0 (number a) is)) is)
+          (latency_itself a))
 
       none : (b : Bool) → list_any (is_latency a) kept ≡ b → came a ≡ false → came a ≡ b
       none false any is = is
@@ -92,21 +99,34 @@ module _ (s : ScenarioParts) (said : IsOverScenario s) (tally : BTreeMap Latency
       (subst (IsStrictlySortedBy latency_cmp) (sym (keys_are number kept)) kept_sorted)
       (λ a. tallied a ∙ ap (λ (b : Bool). cond b (Some (number a)) None) (came_if_kept a) ∙ sym (found number a kept))
 
-  counted_entries : (xs : List Latency) → map count_of_entry (map (entry number) xs) ≡ map (counted s) xs
+  counted_entries : (xs : List Latency) → map count_of_entry (map (entry number) xs) ≡ map (counted came_late) xs
   counted_entries [] = refl
-  counted_entries (x ∷ xs) = ap (λ (l : List LatencyCount). counted s x ∷ l) (counted_entries xs)
+  counted_entries (x ∷ xs) = ap (λ (l : List LatencyCount). counted came_late x ∷ l) (counted_entries xs)
 
-  pub counts_are : map count_of_entry tally.entries ≡ latency_counts s
+  pub counts_are : map count_of_entry tally.entries ≡ counts_among s came_late
   counts_are =
       ap (map count_of_entry) entries_are
       ∙ counted_entries kept
-      ∙ sym (filter_map_of (counted s) (λ (c : LatencyCount). nat_lt 0 c.count) (all_latencies s))
+      ∙ sym (filter_map_of (counted came_late) (λ (c : LatencyCount). nat_lt 0 c.count) (all_latencies s))
 
 -- by the first put of each packet
-pub latencies_are : (s : ScenarioParts) (first : BTreeMap PacketId PutLine) (puts : List PutLine) (deliveries : List Delivery) → puts ≡ bus_puts s
-    → deliveries ≡ bus_deliveries s → ((x : PacketId) → get packet_cmp first x ≡ find (λ p. queues x p.packet) puts)
-    → filter_map (latency_by first) deliveries ≡ bus_latencies s
-latencies_are s first puts deliveries put delivered are =
-    ap (filter_map (latency_by first)) delivered
-    ∙ filter_same (latency_by first) (latency_of s) (bus_deliveries s)
-    (λ d there. ap (option_map (latency_since d)) (are (packet_delivered d) ∙ ap (find (λ (p : PutLine). queues (packet_delivered d) p.packet)) put))
+module _ (s : ScenarioParts) (first : BTreeMap PacketId PutLine) (puts : List PutLine) (put : puts ≡ bus_puts s)
+    (are : (x : PacketId) → get packet_cmp first x ≡ find (λ p. queues x p.packet) puts) where
+  pub latencies_by : (ds : List Delivery) → filter_map (latency_by first) ds ≡ filter_map (latency_of s) ds
+  latencies_by ds =
+      filter_same (latency_by first) (latency_of s) ds
+      (λ d there. ap (option_map (latency_since d)) (are (packet_delivered d) ∙ ap (find (λ (p : PutLine). queues (packet_delivered d) p.packet)) put))
+
+  pub latencies_are : (deliveries : List Delivery) → deliveries ≡ bus_deliveries s → filter_map (latency_by first) deliveries ≡ bus_latencies s
+  latencies_are deliveries delivered = ap (filter_map (latency_by first)) delivered ∙ latencies_by (bus_deliveries s)
+
+  pub host_latencies_are : (hosts : List ℕ) (deliveries : List Delivery) → hosts ≡ s.hosts → deliveries ≡ bus_deliveries s
+      → filter_map (host_latency_by hosts first) deliveries ≡ host_latencies s
+  host_latencies_are hosts deliveries hosted delivered =
+      (λ k. filter_map (host_latency_by (hosted k) first) (delivered k))
+      ∙ given_by_kept (is_at_host s.hosts) (latency_by first) (bus_deliveries s)
+      ∙ latencies_by (filter (is_at_host s.hosts) (bus_deliveries s))
+
+-- the deliveries at the hosts of their rounds are deliveries
+pub at_hosts_among : (s : ScenarioParts) (d : Delivery) → Contains (filter (is_at_host s.hosts) (bus_deliveries s)) d → Contains (bus_deliveries s) d
+at_hosts_among s d there = (filtered (is_at_host s.hosts) (bus_deliveries s) d there).0

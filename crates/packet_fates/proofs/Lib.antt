@@ -1,5 +1,8 @@
 mod PacketOrders
 mod FirstOnes
+mod CountedKeys
+mod CountedPackets
+mod KeptOnes
 mod QueuesEmptied
 mod FatesOfRuns
 mod LatencyOrders
@@ -9,3 +12,4 @@ mod SameEntries
 mod DeliveredLatencies
 mod LatenciesInOrder
 mod CountedStreams
+mod HostedStreams

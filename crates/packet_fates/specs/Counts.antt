@@ -30,7 +30,7 @@ abbrev pub counts_after : StreamCounts → Fate → StreamCounts
 counts_after c Dropped = record c { put = c.put + 1; dropped = c.dropped + 1 }
 counts_after c Waiting = record c { put = c.put + 1; waiting = c.waiting + 1 }
 counts_after c (Cleared frame) = record c { put = c.put + 1; cleared = c.cleared + 1 }
-counts_after c (Sent frame slot receivers) = record c { put = c.put + 1; sent = c.sent + 1 }
+counts_after c (Sent frame rank slot receivers at_host) = record c { put = c.put + 1; sent = c.sent + 1 }
 
 -- each count may rise by one
 pub record HasRoom (c : StreamCounts) : Type 0 where

@@ -5,7 +5,7 @@ use Rattle.std.specs.declared.option.Option.{Option}
 use Rattle.std.specs.Ordering.{nat_cmp, ordering_then}
 use Rattle.std.specs.BTreeMap.{BTreeMap, get}
 use Rattle.bus_rules.specs.declared.delivery.Delivery.{Delivery}
-use Rattle.bus_terms.specs.Fates.{is_latency, latency_since, packet_delivered}
+use Rattle.bus_terms.specs.Fates.{is_at_host, is_latency, latency_since, packet_delivered}
 use Rattle.bus_terms.specs.declared.packets.Latency.{Latency}
 use Rattle.bus_terms.specs.declared.packets.LatencyCount.{LatencyCount}
 use Rattle.bus_terms.specs.declared.packets.PacketId.{PacketId}
@@ -20,6 +20,10 @@ latency_cmp a b = ordering_then (nat_cmp a.node b.node)
 -- by the line that queued each packet
 abbrev pub latency_by : BTreeMap PacketId PutLine → Delivery → Option Latency
 latency_by first d = option_map (latency_since d) (get packet_cmp first (packet_delivered d))
+
+-- of the deliveries at the hosts of their rounds
+abbrev pub host_latency_by : List ℕ → BTreeMap PacketId PutLine → Delivery → Option Latency
+host_latency_by hosts first d = if is_at_host hosts d then latency_by first d else None
 
 abbrev pub some_count : ℕ → Option ℕ
 some_count n = if nat_lt 0 n then Some n else None

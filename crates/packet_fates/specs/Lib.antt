@@ -4,3 +4,4 @@ pub mod Clearings
 pub mod Tables
 pub mod Counts
 pub mod Latencies
+pub mod Hosted

@@ -6,6 +6,7 @@ use Rattle.bus_terms.specs.Packets.{bus_puts, bus_sent}
 use Rattle.packet_fates.specs.declared.bus_lists.BusLists.{BusLists}
 
 pub record AreOfRun (s : ScenarioParts) (lists : BusLists) : Type 0 where
+  pub hosted : lists.hosts.now ≡ s.hosts
   pub scripted : lists.script.now ≡ s.script
   pub put : lists.puts.now ≡ bus_puts s
   pub transmitted : lists.sent.now ≡ bus_sent s

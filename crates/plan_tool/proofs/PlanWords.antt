@@ -74,9 +74,10 @@ module _ (ws : List (List ℕ)) (word : List ℕ) (from count : ℕ) (found : Op
   sampled_spell (Outcome n) of = absurd of
   sampled_spell (Fates n) of = absurd of
   sampled_spell (Sample f n) of = (
-    spells ∙ three_same of.0 (ap decimal (sym of.1)) (ap decimal (sym of.2)),
-    omega (arith, few, of.1),
-    omega (arith, fewer, of.2),
+    spells ∙ three_same of.0 (ap decimal (sym of.2)) (ap decimal (sym of.3)),
+    omega (arith, few, of.2),
+    omega (arith, fewer, of.3),
+    omega (arith, of.1, of.2, of.3),
   )
 
   spell_sampled : (c : Command) → Spell ws c → IsSampled word from count c
@@ -86,11 +87,12 @@ module _ (ws : List (List ℕ)) (word : List ℕ) (from count : ℕ) (found : Op
   spell_sampled (Sample f n) asks =
       let same = sym spells ∙ asks.0 in
       let fits = asks.1 in
-      let fits_too = asks.2 in (
-        ap (λ (l : List (List ℕ)). get_or l 0 []) same,
-        sym (decimal_injective from f (omega (arith, few)) (omega (arith, fits)) (ap (λ (l : List (List ℕ)). get_or l 1 []) same)),
-        sym (decimal_injective count n (omega (arith, fewer)) (omega (arith, fits_too)) (ap (λ (l : List (List ℕ)). get_or l 2 []) same)),
-      )
+      let fits_too = asks.2 in
+      let within = asks.3 in
+      let first : f ≡ from = sym (decimal_injective from f (omega (arith, few)) (omega (arith, fits)) (ap (λ (l : List (List ℕ)). get_or l 1 []) same)) in
+      let number : n ≡ count =
+      sym (decimal_injective count n (omega (arith, fewer)) (omega (arith, fits_too)) (ap (λ (l : List (List ℕ)). get_or l 2 []) same)) in
+      (ap (λ (l : List (List ℕ)). get_or l 0 []) same, omega (arith, within, first, number), first, number)
 
   pub sampled_asked : (c : Command) → (found ≡ Some c) ↔ Spell ws c
   sampled_asked c = (λ got. sampled_spell c ((is c).0 got), λ asks. (is c).1 (spell_sampled c asks))

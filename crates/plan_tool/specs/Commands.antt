@@ -1,5 +1,5 @@
 -- The commands of a planner: the words that ask for each, and which bytes its grammar rejects.
-use Rattle.std.specs.Prelude.{◌≡◌, ◌<◌, ◌^◌, ℕ, List, [], ◌∷◌, Option, Some, None, String, codes, decimal, map, string_bytes}
+use Rattle.std.specs.Prelude.{◌≡◌, ◌+◌, ◌<◌, ◌≤◌, ◌^◌, ℕ, List, [], ◌∷◌, Option, Some, None, String, codes, decimal, map, string_bytes}
 use Rattle.std.specs.declared.alloc.Global.{Global}
 use Rattle.std.specs.Result.{result_err}
 use Rattle.text_readers.specs.declared.fault.FaultKind.{FaultKind}
@@ -8,12 +8,12 @@ use Rattle.plan_tool.specs.DrawnTexts.{draw_fault}
 use Rattle.plan_tool.specs.declared.command.Command.{Command}
 use Rattle.plan_tool.specs.declared.command.Command.TheVariants.{Draw, Fates, Outcome, Sample}
 
--- words of these bytes ask for this command. A number has at most 13 digits
+-- words of these bytes ask for this command. A number has at most 13 digits, and no seed of a sample has more
 abbrev pub Spell : List (List ℕ) → Command → Type 0
 Spell words (Draw seed) = (words ≡ codes "draw" ∷ decimal seed ∷ []) × (seed < 10 ^ 13)
 Spell words (Outcome seed) = (words ≡ codes "outcome" ∷ decimal seed ∷ []) × (seed < 10 ^ 13)
 Spell words (Fates seed) = (words ≡ codes "fates" ∷ decimal seed ∷ []) × (seed < 10 ^ 13)
-Spell words (Sample from count) = (words ≡ codes "sample" ∷ decimal from ∷ decimal count ∷ []) × (from < 10 ^ 13) × (count < 10 ^ 13)
+Spell words (Sample from count) = (words ≡ codes "sample" ∷ decimal from ∷ decimal count ∷ []) × (from < 10 ^ 13) × (count < 10 ^ 13) × (from + count ≤ 10 ^ 13)
 
 -- Internal: it is that of this word, with this seed
 abbrev pub IsSeeded : List ℕ → ℕ → Command → Type 0
@@ -24,7 +24,7 @@ IsSeeded word seed (Sample from count) = ⊥
 
 -- Internal: it is that of this word, with these seeds
 abbrev pub IsSampled : List ℕ → ℕ → ℕ → Command → Type 0
-IsSampled word from count (Sample f n) = (word ≡ codes "sample") × (f ≡ from) × (n ≡ count)
+IsSampled word from count (Sample f n) = (word ≡ codes "sample") × (from + count ≤ 10 ^ 13) × (f ≡ from) × (n ≡ count)
 IsSampled word from count other = ⊥
 
 abbrev pub Asks : List (String Global) → Command → Type 0

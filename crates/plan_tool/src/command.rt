@@ -1,10 +1,13 @@
 //! The commands, by the words that ask for them.
 
-ghost use Rattle.std.specs.Prelude.{◌≡◌, ◌↔◌, [], ◌∷◌, Some};
+ghost use Rattle.std.specs.Prelude.{◌≡◌, ◌↔◌, ◌<◌, ◌^◌, [], ◌∷◌, Some};
 ghost use Rattle.plan_tool.specs.Commands.{Asks, IsSampled, IsSeeded, Spell};
 ghost use Rattle.plan_tool.specs.declared.command.Command.{Command as CommandOf};
 
 use command_line::number;
+
+/// How many seeds there are, from 0 on.
+const SEEDS: u64 = 10_000_000_000_000;
 
 /// What the words of the command line can ask for.
 #[derive(Clone, Copy)]
@@ -15,7 +18,7 @@ pub enum Command {
     Outcome { seed: u64 },
     /// What became of each packet that the script puts, on that bus with those losses.
     Fates { seed: u64 },
-    /// What became of the packets for each seed of a sample: the first one and their number.
+    /// What became of the packets for each seed of a sample: the first one and their number. No seed is above the greatest.
     Sample { from: u64, count: u64 },
 }
 
@@ -60,11 +63,13 @@ fn seeded(word: &str, seed: u64) -> Option<Command>
     }
 }
 
-// And with these seeds.
+// And with these seeds, where none is above the greatest.
 fn sampled(word: &str, from: u64, count: u64) -> Option<Command>
+    requires few { from < 10 ^ 13 }
+    requires fewer { count < 10 ^ 13 }
     ensures { (c : CommandOf) → (result ≡ Some c) ↔ IsSampled word.now from count c }
 {
-    if word == "sample" {
+    if word == "sample" && from + count <= SEEDS {
         Some(Command::Sample { from, count })
     } else {
         None

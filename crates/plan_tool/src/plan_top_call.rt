@@ -27,8 +27,8 @@ const USAGE: &[u8; 65] = b"usage: draw SEED | outcome SEED | fates SEED | sample
 /// With status 0 the text of `draw` is a scenario that a run accepts, whose deliveries, drops and costs on the bus are those of the
 /// scenario with all losses that the seed draws (`IsDrawnText`). So `run` of it delivers and drops these (`top` of `replay_tool`,
 /// clause `report`: `AgreesWithBus`). The text of `outcome` is the bus report of the scenario with all these losses, and that of
-/// `fates` says what became of each packet that it puts. `sample` writes the texts of its seeds one after another, and needs memory for one at a
-/// time (`IsReport`).
+/// `fates` says what became of each packet that it puts, and whether the host of its round delivered it. That of `sample` is the texts of
+/// its seeds, one after another (`IsReport`). It writes each before it runs the next one, which no clause says.
 /// With status 1 the line names the first fault by the grammar of networks, or, of `draw`, the line after the last where there is no
 /// such text: `TooBig` for more nodes times frames than a run takes, else `TooMany` for more lines than a scenario has.
 pub fn plan_top<S: Source, K: Sink>(

@@ -15,9 +15,11 @@ use std::alloc::Global;
 /// What became of each packet that the script of the scenario puts, in this run of it over some links.
 pub fn run_fates(alloc: Global, scenario: &Scenario, bus: &Bus) -> Result<Vec<PutFate>, Memory>
     requires few { length bus.now.deliveries < 2 ^ 32 }
-    ensures { (d : ScenarioParts) → IsBusRun d bus.now → scenario.now.script ≡ d.script → IfOk result (λ fates. fates.items ≡ bus_fates d) }
+    ensures { (d : ScenarioParts) → IsBusRun d bus.now → scenario.now.hosts ≡ d.hosts → scenario.now.script ≡ d.script
+        → IfOk result (λ fates. fates.items ≡ bus_fates d) }
 {
     let lists = BusLists {
+        hosts: scenario.hosts(),
         script: scenario.script(),
         puts: bus.puts(),
         sent: bus.sent(),

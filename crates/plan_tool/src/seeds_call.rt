@@ -14,7 +14,7 @@ use lwb_base::{Memory, Sink};
 use std::alloc::Global;
 
 /// Writes the text of each seed, one after another, and gives 0. Or it writes a proper prefix of all of it, and gives 4 where the
-/// sink failed and 5 where memory ran out. It needs memory for one seed at a time.
+/// sink failed and 5 where memory ran out. It keeps the text of one seed at a time, which no clause says.
 pub fn write_seeds<K: Sink>(alloc: Global, network: &SampledNetwork, sink: &mut K) -> u8
     requires nodes { network.now.ratios.nodes ≡ map node_id network.now.scenario.nodes }
     requires few { network.now.from + network.now.count < 2 ^ 64 }

@@ -2,6 +2,12 @@ use Rattle.std.proofs.Common.{◌≡◌, ◌∷◌, [], decimal, refl}
 use Rattle.plan_tool.proofs.PlanWords.{sampled_asked, three_same}
 use Rattle.plan_tool.proofs.command.sampled_by.Goals as goal
 
+pub sampled-requires : goal.sampled-requires
+sampled-requires c = record {
+  few = ((c.in_ok-from.ensures c.in_ok-from.from).0 refl).1;
+  fewer = ((c.in_ok-count.ensures c.in_ok-count.count).0 refl).1;
+}
+
 pub returns : goal.returns
 returns c =
     let from = (c.in_ok-from.ensures c.in_ok-from.from).0 refl in

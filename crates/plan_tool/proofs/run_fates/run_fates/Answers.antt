@@ -7,8 +7,9 @@ fates-requires c = record { few = subst (λ (l : List Delivery). length l < 2 ^ 
 
 pub returns : goal.returns
 returns c =
-    λ d run scripted.
+    λ d run hosted scripted.
     c.fates.ensures d record {
+      hosted = c.hosts.ensures.value ∙ hosted;
       scripted = c.script.ensures.value ∙ scripted;
       put = c.puts.ensures ∙ run.put;
       transmitted = c.sent.ensures ∙ run.sent;
