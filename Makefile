@@ -5,7 +5,7 @@ PLAN = bin/foldcairn-plan-x86_64-linux
 IN_CRATE = cd crates/$(or $(CRATE),$(error name a crate: make $@ CRATE=link_trace)) &&
 
 .PHONY: help check only try tests test format edits crate gate store program python lint pages words pictures crates lemmas calls costs bench
-.PHONY: wheel deb rust export release install-tests notebook instructions
+.PHONY: wheel deb rust wasm export release install-tests notebook instructions
 
 help: # lists the targets
 	@grep -E '^[a-z-]+:' Makefile
@@ -64,6 +64,9 @@ deb: # builds the Debian package in dist/, and the wheel
 
 rust: # writes the proved sources as a Cargo workspace of ordinary Rust into dist/
 	tools/package.sh rust
+
+wasm: # builds both programs as one WebAssembly module, with its JavaScript, in dist/wasm
+	tools/setup-rust.sh && python3 tools/export dist/workspace && tools/wasm.sh dist/workspace dist/wasm
 
 export: # exports the proved sources as Rust, builds them, and compares what they write with the stored programs'
 	tests/export.sh quick

@@ -2,15 +2,16 @@
 # Exports the proved sources as Rust, builds them by Debian's rustc with warnings as errors, and tries what is built: the tests of the
 # exporter, of the shim and of the sources; the bytes that both programs write of examples, worked texts and random texts, compared with the
 # stored programs'; and, by tests/program.sh and tests/plan.sh, all that the stored programs are tried on, with each request for memory
-# refused in turn. `all` does so with 300 seeds of random texts in place of 10.
+# refused in turn. As WebAssembly both programs are asked for the same bytes too, under node, and in Chromium from a file. `all` does so with
+# 300 seeds of random texts in place of 10, and 100 in WebAssembly.
 # Usage: tests/export.sh quick | all [FOLDER]. It builds in the folder, or in one of its own that goes. It installs what it needs where
 # that is allowed (tools/setup-rust.sh). The last line is 'N passed, M failed', and the status is 0 where M is 0.
 # shellcheck disable=SC2317 # Functions are called by their names through `says`.
 set -u
 top=$(cd "$(dirname "$0")/.." && pwd) || exit 1
 case ${1-} in
-    quick) seeds=10 ;;
-    all) seeds=300 ;;
+    quick) seeds=10 wasm_seeds=3 ;;
+    all) seeds=300 wasm_seeds=100 ;;
     *)
         echo "usage: tests/export.sh quick | all [FOLDER]" >&2
         exit 2
@@ -103,6 +104,34 @@ as_the_stored() {
     [ "$run" -eq 0 ] && [ "$plan" -eq 0 ]
 }
 
+wasm_builds() {
+    "$top/tools/wasm.sh" "$out" "$folder/wasm"
+}
+
+wasm_bytes() {
+    "$python" "$top/tests/same_bytes.py" --through "node $top/tests/wasm_cases.mjs $folder/wasm" --random "$wasm_seeds"
+}
+
+wasm_module() {
+    node "$top/tests/wasm_module.mjs" "$folder/wasm"
+}
+
+wasm_page() {
+    "$python" "$top/tests/wasm_page.py" "$folder/wasm"
+}
+
+# What needs another library than this machine's is built beside the rest.
+in_wasm() {
+    says "the module" wasm_builds || return
+    says "the same bytes in WebAssembly" wasm_bytes
+    says "the module in JavaScript" wasm_module
+    if command -v chromium > "$folder/found"; then
+        says "the module in a page from a file" wasm_page
+    elif [ "${CI:-}" = true ]; then
+        says "no page was opened, since there is no chromium" false
+    fi
+}
+
 if ! "$top/tools/setup-rust.sh" || ! "$top/tools/setup-python.sh"; then
     echo "0 passed, 1 failed"
     exit 1
@@ -115,6 +144,7 @@ if says "the build, with warnings as errors" builds; then
     says "the same bytes" same_bytes
     says "the Python package finds the programs" package_finds
     says "what the stored programs are tried on" as_the_stored
+    in_wasm
 fi
 echo "$passed passed, $failed failed"
 [ "$failed" -eq 0 ]

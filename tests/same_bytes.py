@@ -31,6 +31,8 @@ from random_texts import Case, drawn, of_network, of_scenario
 TOP = pathlib.Path(__file__).resolve().parent.parent
 PROVED = [TOP / "bin/foldcairn-x86_64-linux", TOP / "bin/foldcairn-plan-x86_64-linux"]
 SECONDS = 120
+# The commands of the second program. What COMMAND runs has both programs in one, and goes by the command.
+PLANNERS = [("draw",), ("outcome",), ("fates",), ("sample",)]
 NO_COMMANDS = [(), ("none",), ("run", "x"), ("outcome",), ("sample", "1"), ("demo", "1", "2"), ("outcome", "18446744073709551616"), ("run", "")]
 
 
@@ -128,7 +130,7 @@ def main() -> int:
         seeds = pool.map(of_seed, range(given.first, given.first + given.random))
         cases = [*filed(), *(case for of_one in seeds for case in of_one)]
         if given.through:
-            lines = "".join(pool.map(as_line, cases))
+            lines = "".join(pool.map(as_line, [case for case in cases if case.is_plan == (case.words[:1] in PLANNERS)]))
             return subprocess.run(shlex.split(given.through), input=lines, text=True).returncode
         programs = [program.resolve() for program in given.programs]
         count = sum(pool.map(lambda case: differs(programs, case), cases))

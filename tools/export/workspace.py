@@ -195,7 +195,7 @@ class Writer:
         for name in sorted(self.repository.crates):
             self.crate(name)
         self.counts["crates"] = len(self.repository.crates)
-        for folder in ("shim",):
+        for folder in ("shim", "wasm"):
             shutil.copytree(HERE / folder, self.folder / folder, dirs_exist_ok=True, ignore=shutil.ignore_patterns("target"))
         self.write(pathlib.Path("SOURCES"), f"version {self.repository.version}\nsources {sources}\n")
         self.write(pathlib.Path("LICENSE"), (self.repository.top / "LICENSE").read_text(encoding="utf-8"))
@@ -205,7 +205,7 @@ class Writer:
     def _root_manifest(self) -> str:
         members = ["shim", "shim/circular_buffer", "shim/rand_core"] + [f"crates/{name}" for name in sorted(self.repository.crates)]
         programs = [f"crates/{name}" for name in sorted(self.repository.crates) if self.repository.is_program(name)]
-        lines = ["[workspace]", 'resolver = "3"', "members = [", *(f'    "{member}",' for member in members), "]"]
+        lines = ["[workspace]", 'resolver = "3"', "members = [", *(f'    "{member}",' for member in members), "]", 'exclude = ["wasm"]']
         lines += ["default-members = [" + ", ".join(f'"{program}"' for program in programs) + "]", ""]
         lines += ["[workspace.package]", f'version = "{self.repository.version}"', f'edition = "{EDITION}"', 'license = "MIT"', ""]
         lines += ["[workspace.dependencies]", *(f"{name} = {version}" for name, version in LIBRARIES.items()), ""]
