@@ -3,15 +3,15 @@
 # exporter, of the shim and of the sources; the bytes that both programs write of examples, worked texts and random texts, compared with the
 # stored programs'; and, by tests/program.sh and tests/plan.sh, all that the stored programs are tried on, with each request for memory
 # refused in turn. As WebAssembly both programs are asked for the same bytes too, under node, and in Chromium from a file. `all` does so with
-# 300 seeds of random texts in place of 10, and 100 in WebAssembly.
+# 300 seeds of random texts in place of 10, and 100 in WebAssembly. The node alone runs on QEMU's Cortex-M4 (tests/firmware.sh).
 # Usage: tests/export.sh quick | all [FOLDER]. It builds in the folder, or in one of its own that goes. It installs what it needs where
 # that is allowed (tools/setup-rust.sh). The last line is 'N passed, M failed', and the status is 0 where M is 0.
 # shellcheck disable=SC2317 # Functions are called by their names through `says`.
 set -u
 top=$(cd "$(dirname "$0")/.." && pwd) || exit 1
 case ${1-} in
-    quick) seeds=10 wasm_seeds=3 ;;
-    all) seeds=300 wasm_seeds=100 ;;
+    quick) seeds=10 wasm_seeds=3 logs=few ;;
+    all) seeds=300 wasm_seeds=100 logs=all ;;
     *)
         echo "usage: tests/export.sh quick | all [FOLDER]" >&2
         exit 2
@@ -120,7 +120,16 @@ wasm_page() {
     "$python" "$top/tests/wasm_page.py" "$folder/wasm"
 }
 
-# What needs another library than this machine's is built beside the rest.
+on_a_device() {
+    "$top/tests/firmware.sh" "$out" "$folder/firmware" "$logs"
+}
+
+# Rust's own library for both other machines is built beside the rest.
+libraries() {
+    "$top/tools/rust-sysroot.sh" wasm32-unknown-unknown "$folder/wasm/sysroot" z
+    "$top/tools/rust-sysroot.sh" thumbv7em-none-eabi "$folder/firmware/sysroot" s
+}
+
 in_wasm() {
     says "the module" wasm_builds || return
     says "the same bytes in WebAssembly" wasm_bytes
@@ -137,6 +146,7 @@ if ! "$top/tools/setup-rust.sh" || ! "$top/tools/setup-python.sh"; then
     exit 1
 fi
 python=$("$top/tools/setup-python.sh" --print)
+libraries > "$folder/libraries" 2>&1 &
 says "the exporter's tests" exporter_tests
 says "the export" exports
 if says "the build, with warnings as errors" builds; then
@@ -144,7 +154,10 @@ if says "the build, with warnings as errors" builds; then
     says "the same bytes" same_bytes
     says "the Python package finds the programs" package_finds
     says "what the stored programs are tried on" as_the_stored
+    wait
     in_wasm
+    says "a node on a Cortex-M4" on_a_device
 fi
+wait
 echo "$passed passed, $failed failed"
 [ "$failed" -eq 0 ]

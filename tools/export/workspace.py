@@ -4,7 +4,7 @@
     crates/NAME        each crate of crates.txt
     shim               what stands for the toolchain's libraries
     foldcairn-node     the crates of one node as the modules of one crate
-    wasm               both programs as one WebAssembly module: a workspace of its own
+    wasm, firmware     both programs as one WebAssembly module, and examples/firmware: workspaces of their own
 """
 
 from __future__ import annotations
@@ -12,6 +12,7 @@ from __future__ import annotations
 import collections
 import dataclasses
 import pathlib
+import re
 import shutil
 
 from file_export import FileExport, with_prelude
@@ -32,6 +33,8 @@ LIBRARIES = {
     "rand_pcg": '{ version = "0.3.1", default-features = false }',
     "rand_xoshiro": '"0.6.0"',
 }
+# The crates of a node, with all below them.
+NODE = ["node_core"]
 PROFILES = """\
 [profile.release]
 panic = "abort"
@@ -52,6 +55,15 @@ LIBRARY_ROOT = "#![no_std]\n#![forbid(unsafe_code)]\n" + ALLOWED + "extern crate
 # The start of a program is C's `main`, which the shim's macro writes.
 PROGRAM_ROOT = "#![no_std]\n#![cfg_attr(unix, no_main)]\n" + ALLOWED + "extern crate rattle_std as std;\n\n"
 PROGRAM_END = "\nrattle_std::program!(rattle_main);\n"
+
+
+# A link of a page to another one.
+LINK = re.compile(r"\[([^][]*)\]\((?!https?:)[^()]*\)")
+
+
+def alone(page: str) -> str:
+    """A page without its links, for where the other pages are not."""
+    return LINK.sub(r"\1", page)
 
 
 class ExportError(Exception):
@@ -195,17 +207,22 @@ class Writer:
         for name in sorted(self.repository.crates):
             self.crate(name)
         self.counts["crates"] = len(self.repository.crates)
-        for folder in ("shim", "wasm"):
-            shutil.copytree(HERE / folder, self.folder / folder, dirs_exist_ok=True, ignore=shutil.ignore_patterns("target"))
+        if set(NODE) <= set(self.repository.crates):
+            self.one("foldcairn-node", NODE)
+            self.write(pathlib.Path("foldcairn-node/README.md"), alone((self.repository.top / "docs/DEVICES.md").read_text(encoding="utf-8")))
+        firmware = self.repository.top / "examples/firmware"
+        for folder in [HERE / "shim", HERE / "wasm", *([firmware] if firmware.exists() else [])]:
+            shutil.copytree(folder, self.folder / folder.name, dirs_exist_ok=True, ignore=shutil.ignore_patterns("target"))
         self.write(pathlib.Path("SOURCES"), f"version {self.repository.version}\nsources {sources}\n")
         self.write(pathlib.Path("LICENSE"), (self.repository.top / "LICENSE").read_text(encoding="utf-8"))
         self.write(pathlib.Path("README.md"), (HERE / "workspace.md").read_text(encoding="utf-8"))
         self.write(pathlib.Path("Cargo.toml"), self._root_manifest())
 
     def _root_manifest(self) -> str:
-        members = ["shim", "shim/circular_buffer", "shim/rand_core"] + [f"crates/{name}" for name in sorted(self.repository.crates)]
+        own = [name for name in ("foldcairn-node",) if (self.folder / name).exists()]
+        members = [*own, "shim", "shim/circular_buffer", "shim/rand_core"] + [f"crates/{name}" for name in sorted(self.repository.crates)]
         programs = [f"crates/{name}" for name in sorted(self.repository.crates) if self.repository.is_program(name)]
-        lines = ["[workspace]", 'resolver = "3"', "members = [", *(f'    "{member}",' for member in members), "]", 'exclude = ["wasm"]']
+        lines = ["[workspace]", 'resolver = "3"', "members = [", *(f'    "{member}",' for member in members), "]", 'exclude = ["firmware", "wasm"]']
         lines += ["default-members = [" + ", ".join(f'"{program}"' for program in programs) + "]", ""]
         lines += ["[workspace.package]", f'version = "{self.repository.version}"', f'edition = "{EDITION}"', 'license = "MIT"', ""]
         lines += ["[workspace.dependencies]", *(f"{name} = {version}" for name, version in LIBRARIES.items()), ""]
