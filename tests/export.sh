@@ -3,15 +3,16 @@
 # exporter, of the shim and of the sources; the bytes that both programs write of examples, worked texts and random texts, compared with the
 # stored programs'; and, by tests/program.sh and tests/plan.sh, all that the stored programs are tried on, with each request for memory
 # refused in turn. As WebAssembly both programs are asked for the same bytes too, under node, and in Chromium from a file. `all` does so with
-# 300 seeds of random texts in place of 10, and 100 in WebAssembly. The node alone runs on QEMU's Cortex-M4 (tests/firmware.sh).
+# 300 seeds of random texts in place of 10, and 100 in WebAssembly. The node alone runs on QEMU's Cortex-M4 (tests/firmware.sh), and by `all`
+# both programs for Linux on 64-bit Arm (tests/arm64.sh).
 # Usage: tests/export.sh quick | all [FOLDER]. It builds in the folder, or in one of its own that goes. It installs what it needs where
 # that is allowed (tools/setup-rust.sh). The last line is 'N passed, M failed', and the status is 0 where M is 0.
 # shellcheck disable=SC2317 # Functions are called by their names through `says`.
 set -u
 top=$(cd "$(dirname "$0")/.." && pwd) || exit 1
 case ${1-} in
-    quick) seeds=10 wasm_seeds=3 logs=few ;;
-    all) seeds=300 wasm_seeds=100 logs=all ;;
+    quick) seeds=10 wasm_seeds=3 logs=few optional= ;;
+    all) seeds=300 wasm_seeds=100 logs=all optional=--optional ;;
     *)
         echo "usage: tests/export.sh quick | all [FOLDER]" >&2
         exit 2
@@ -124,6 +125,10 @@ on_a_device() {
     "$top/tests/firmware.sh" "$out" "$folder/firmware" "$logs"
 }
 
+on_arm64() {
+    "$top/tests/arm64.sh" "$out" "$folder/arm64" 60
+}
+
 # Rust's own library for both other machines is built beside the rest.
 libraries() {
     "$top/tools/rust-sysroot.sh" wasm32-unknown-unknown "$folder/wasm/sysroot" z
@@ -141,7 +146,9 @@ in_wasm() {
     fi
 }
 
-if ! "$top/tools/setup-rust.sh" || ! "$top/tools/setup-python.sh"; then
+# The word is there or not.
+# shellcheck disable=SC2086
+if ! "$top/tools/setup-rust.sh" $optional || ! "$top/tools/setup-python.sh"; then
     echo "0 passed, 1 failed"
     exit 1
 fi
@@ -157,6 +164,7 @@ if says "the build, with warnings as errors" builds; then
     wait
     in_wasm
     says "a node on a Cortex-M4" on_a_device
+    [ -z "$optional" ] || says "the same bytes on 64-bit Arm" on_arm64
 fi
 wait
 echo "$passed passed, $failed failed"

@@ -33,7 +33,7 @@ qemu-system-arm qemu-system-arm
 optional='
 qemu-aarch64 qemu-user
 aarch64-linux-gnu-gcc gcc-aarch64-linux-gnu
-/usr/aarch64-linux-gnu/lib/libc.so.6 libc6-arm64-cross
+/usr/aarch64-linux-gnu/lib/crt1.o libc6-dev-arm64-cross
 '
 # The first Rust with edition 2024, in which the sources are written.
 oldest=1.85

@@ -7,7 +7,7 @@
 #![deny(unsafe_code)]
 
 extern crate alloc as rust_alloc;
-#[cfg(any(feature = "host", test))]
+#[cfg(any(all(feature = "host", not(feature = "libc")), test))]
 extern crate std as rust_std;
 
 mod macros;
@@ -18,6 +18,8 @@ pub mod env;
 mod hash_map;
 pub mod io;
 pub mod iter;
+#[cfg(all(feature = "libc", not(test)))]
+mod libc;
 pub mod process;
 #[cfg(test)]
 mod refusing;

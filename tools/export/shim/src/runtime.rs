@@ -47,7 +47,6 @@ impl HostRuntime {
 mod system {
     use super::*;
     use core::ffi::CStr;
-    use rust_std::io::{Error as SystemError, ErrorKind as SystemErrorKind};
 
     // POSIX numbers SIGPIPE so, and SIG_IGN is 1 on Linux and macOS.
     const SIGPIPE: i32 = 13;
@@ -59,12 +58,21 @@ mod system {
         fn signal(number: i32, handler: usize) -> usize;
     }
 
+    /// Whether a signal has interrupted the last call.
+    #[cfg(not(all(feature = "libc", not(test))))]
+    fn is_interrupted() -> bool {
+        rust_std::io::Error::last_os_error().kind() == rust_std::io::ErrorKind::Interrupted
+    }
+
+    #[cfg(all(feature = "libc", not(test)))]
+    use crate::libc::is_interrupted;
+
     /// A call, again for as long as signals interrupt it.
     fn counted(mut call: impl FnMut() -> isize) -> Result<usize> {
         loop {
             match usize::try_from(call()) {
                 Ok(count) => return Ok(count),
-                Err(_) if SystemError::last_os_error().kind() == SystemErrorKind::Interrupted => {}
+                Err(_) if is_interrupted() => {}
                 Err(_) => return Err(OTHER),
             }
         }
