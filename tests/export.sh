@@ -105,6 +105,13 @@ as_the_stored() {
     [ "$run" -eq 0 ] && [ "$plan" -eq 0 ]
 }
 
+as_said() {
+    wait "$stored" || {
+        cat "$folder/stored"
+        return 1
+    }
+}
+
 wasm_builds() {
     "$top/tools/wasm.sh" "$out" "$folder/wasm"
 }
@@ -154,17 +161,21 @@ if ! "$top/tools/setup-rust.sh" $optional || ! "$top/tools/setup-python.sh"; the
 fi
 python=$("$top/tools/setup-python.sh" --print)
 libraries > "$folder/libraries" 2>&1 &
+libraries=$!
 says "the exporter's tests" exporter_tests
 says "the export" exports
 if says "the build, with warnings as errors" builds; then
+    # Most of its time goes into starting programs, and what follows is built meanwhile.
+    as_the_stored > "$folder/stored" 2>&1 &
+    stored=$!
     says "the unit tests" unit_tests
     says "the same bytes" same_bytes
     says "the Python package finds the programs" package_finds
-    says "what the stored programs are tried on" as_the_stored
-    wait
+    wait "$libraries"
     in_wasm
     says "a node on a Cortex-M4" on_a_device
     [ -z "$optional" ] || says "the same bytes on 64-bit Arm" on_arm64
+    says "what the stored programs are tried on" as_said
 fi
 wait
 echo "$passed passed, $failed failed"
