@@ -5,7 +5,7 @@ PLAN = bin/foldcairn-plan-x86_64-linux
 IN_CRATE = cd crates/$(or $(CRATE),$(error name a crate: make $@ CRATE=link_trace)) &&
 
 .PHONY: help check only try tests test format edits crate gate store program python lint pages words pictures crates lemmas calls costs bench
-.PHONY: wheel deb release install-tests notebook instructions
+.PHONY: wheel deb rust wasm export release install-tests notebook instructions
 
 help: # lists the targets
 	@grep -E '^[a-z-]+:' Makefile
@@ -62,11 +62,21 @@ wheel: # builds the wheel in dist/
 deb: # builds the Debian package in dist/, and the wheel
 	tools/package.sh deb
 
-release: # builds the wheel, the Debian package and the tarball of the sources in dist/, with their checksums
+rust: # writes the proved sources as a Cargo workspace of ordinary Rust into dist/
+	tools/package.sh rust
+
+wasm: # builds both programs as one WebAssembly module, with its JavaScript, in dist/wasm
+	tools/setup-rust.sh && python3 tools/export dist/workspace && tools/wasm.sh dist/workspace dist/wasm
+
+export: # exports the proved sources as Rust, builds them, and compares what they write with the stored programs'
+	tests/export.sh quick
+
+release: # builds the wheel, the Debian package, the workspace and the tarball of the sources in dist/, with their checksums
 	tools/package.sh release
 
-install-tests: # tries what is built to be installed, and README.md's commands in a Debian made from nothing: as root, some 20 minutes
+install-tests: # tries what is built to be installed, README.md's commands in a Debian made from nothing, and the export on more texts: as root, some 30 minutes
 	tests/install.sh all
+	tests/export.sh all
 
 notebook: # writes examples/planning.ipynb from the code of PLANNING.md again
 	tools/notebook.py docs/PLANNING.md > examples/notebook && mv examples/notebook examples/planning.ipynb

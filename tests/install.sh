@@ -15,6 +15,7 @@ version=$(cat "$top/VERSION")
 wheel=foldcairn-$version-py3-none-manylinux_2_34_x86_64.whl
 deb=foldcairn_${version}_amd64.deb
 tarball=foldcairn-$version.tar.gz
+rust=foldcairn-rust-$version.tar.gz
 example=packets-along-a-line
 python=/usr/bin/python3
 
@@ -57,7 +58,7 @@ releases() {
     [ -z "$(git -C "$top" status --porcelain)" ] || echo "the last commit is tried, without what is not committed" >&2
     says "a release" "$folder/one/tools/package.sh" release
     says "the release of another clone" release_elsewhere
-    for name in $wheel $deb $tarball SHA256SUMS; do
+    for name in $wheel $deb $tarball $rust SHA256SUMS; do
         says "$name of two clones" cmp "$folder/one/dist/$name" "$folder/the other one/dist/$name"
     done
     dist=$folder/one/dist
@@ -68,6 +69,11 @@ releases() {
     says "the sources of the tarball run" reports "$folder/foldcairn-$version/foldcairn" run "$top/examples/$example.scenario"
     says "a wheel of the tarball" "$folder/foldcairn-$version/tools/package.sh" wheel "$folder/of-tarball"
     says "the wheel of the tarball" cmp "$folder/of-tarball/$wheel" "$dist/$wheel"
+    says "the workspace of the release is that of these sources" workspace
+}
+
+workspace() {
+    tar -xzf "$dist/$rust" -C "$folder" && PYTHONDONTWRITEBYTECODE=1 "$python" "$folder/one/tools/export" --check "$folder/${rust%.tar.gz}"
 }
 
 release_elsewhere() {
@@ -75,7 +81,7 @@ release_elsewhere() {
 }
 
 sums() {
-    (cd "$dist" && sha256sum --check SHA256SUMS && [ "$(wc -l < SHA256SUMS)" -eq 3 ])
+    (cd "$dist" && sha256sum --check SHA256SUMS && [ "$(wc -l < SHA256SUMS)" -eq 4 ])
 }
 
 # An environment that sees Debian's modules, one that has none but pip, and an install of the clone, each without network. The first sees

@@ -1,7 +1,7 @@
 #!/bin/sh
-# Checks what no test runs: the types of the Python package by mypy --strict, unused and undefined names, forms and line lengths of
-# all Python by ruff, the shell scripts by shellcheck, and by tools/tidy.py the line lengths of .rt and .antt files and what crates.txt
-# lists without need. Debian 12 has no ruff: where it is missing, pyflakes and pycodestyle check the same rules (those of
+# Checks what no test runs: the types of the Python package and of the exporter by mypy --strict, unused and undefined names, forms and
+# line lengths of all Python by ruff, the shell scripts by shellcheck, and by tools/tidy.py the line lengths of .rt and .antt files and
+# what crates.txt lists without need. Debian 12 has no ruff: where it is missing, pyflakes and pycodestyle check the same rules (those of
 # [tool.ruff.lint] in python/pyproject.toml).
 #
 # Usage: tools/lint.sh
@@ -20,6 +20,8 @@ run() {
 
 # Types, from the folder that has the settings.
 (cd python && "$python" -m mypy) || failed=1
+# The modules of the exporter are imported by their names.
+(cd tools/export && "$python" -m mypy --strict --cache-dir=/dev/null ./*.py tests/*.py) || failed=1
 
 sources=$(git ls-files '*.py')
 if command -v ruff >/dev/null 2>&1; then

@@ -1,11 +1,12 @@
 #!/bin/sh
 # Builds what is installed, from a copy of the files that git tracks: nothing is left in the repository. The same sources give
 # the same bytes, since all times are that of the last commit (SOURCE_DATE_EPOCH).
-# Usage: tools/package.sh wheel | deb | release [FOLDER]. It writes into FOLDER, or into dist:
+# Usage: tools/package.sh wheel | deb | rust | release [FOLDER]. It writes into FOLDER, or into dist:
 #   wheel     foldcairn-VERSION-py3-none-manylinux_2_34_x86_64.whl
 #   deb       that, and foldcairn_VERSION_amd64.deb, which has the package of the wheel for Debian's Python
-#   release   both, foldcairn-VERSION.tar.gz with the sources, and SHA256SUMS; the last commit has to have all changes
-# tools/setup-packaging.sh installs what it needs.
+#   rust      foldcairn-rust-VERSION.tar.gz: the proved sources as a Cargo workspace, by tools/export
+#   release   all of them, foldcairn-VERSION.tar.gz with the sources, and SHA256SUMS; the last commit has to have all changes
+# tools/setup-packaging.sh installs what it needs; the workspace needs Python alone.
 set -u
 umask 022
 top=$(cd "$(dirname "$0")/.." && pwd) || exit 1
@@ -136,25 +137,36 @@ build_deb() {
         ends "dpkg-deb failed"
 }
 
+build_rust() {
+    name=foldcairn-rust-$version
+    PYTHONDONTWRITEBYTECODE=1 "$python" "$tree/tools/export" "$work/$name" >"$work/log" || ends "the sources could not be exported"
+    tar -C "$work" --sort=name --owner=0 --group=0 --numeric-owner --mode=u=rwX,go=rX --mtime="@$SOURCE_DATE_EPOCH" -cf - "$name" |
+        gzip -9n > "$folder/$name.tar.gz"
+}
+
 build_release() {
     [ -z "$(git -C "$top" status --porcelain)" ] || ends "the last commit has not all changes: commit them first"
     git -C "$top" -c tar.umask=0022 archive --format=tar --prefix="foldcairn-$version/" HEAD | gzip -9n > "$folder/foldcairn-$version.tar.gz"
-    (cd "$folder" && LC_ALL=C sha256sum "foldcairn-$version.tar.gz" foldcairn-"$version"-py3-*.whl "foldcairn_${version}_amd64.deb") > "$work/sums"
+    (cd "$folder" && LC_ALL=C sha256sum "foldcairn-$version.tar.gz" foldcairn-"$version"-py3-*.whl "foldcairn-rust-$version.tar.gz" \
+        "foldcairn_${version}_amd64.deb") > "$work/sums"
     mv "$work/sums" "$folder/SHA256SUMS"
 }
 
 case $what in
-    wheel | deb | release) ;;
-    *) ends "usage: tools/package.sh wheel | deb | release [FOLDER]" ;;
+    wheel | deb | rust | release) ;;
+    *) ends "usage: tools/package.sh wheel | deb | rust | release [FOLDER]" ;;
 esac
-"$top/tools/setup-packaging.sh" --check || exit 1
+[ "$what" = rust ] || "$top/tools/setup-packaging.sh" --check || exit 1
 mkdir -p "${2:-$top/dist}" && folder=$(cd "${2:-$top/dist}" && pwd) || exit 1
 SOURCE_DATE_EPOCH=${SOURCE_DATE_EPOCH:-$(epoch)}
 export SOURCE_DATE_EPOCH
 copy_sources || ends "the sources could not be copied"
-build_wheel
+[ "$what" = rust ] || build_wheel
 case $what in
     deb | release) build_deb ;;
+esac
+case $what in
+    rust | release) build_rust ;;
 esac
 case $what in
     release) build_release ;;
