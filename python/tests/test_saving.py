@@ -8,7 +8,7 @@ from pathlib import Path
 import pytest
 from hypothesis import given, settings, strategies as st
 
-from foldcairn import planning, program, results
+from foldcairn import losses, planning, program, results
 from foldcairn.arguments import ArgumentError
 from foldcairn.receivers import meant
 from foldcairn.scenario import On, Put, Scenario, ScenarioError, ScenarioWarning, Stream
@@ -139,3 +139,16 @@ def test_places_of_tables_are_those_of_maps(tmp_path: Path) -> None:
     assert drawn == laid
     del made.places[2]
     assert plot.topology(made).axes[0].get_xlim() != laid
+
+
+def test_a_run_without_the_losses_of_its_ratios_says_so() -> None:
+    """A log or a report of a network loses nothing by its ratios; what draws by a seed warns of nothing."""
+    made = Scenario.read(LINE).pair(2, 3, 0.5)
+    for call in (results.log, results.run, results.bus):
+        with pytest.warns(ScenarioWarning, match="this run loses nothing by the 2 reception ratios of the network; `foldcairn.run` draws"):
+            call(made)
+    with warnings.catch_warnings():
+        warnings.simplefilter("error")
+        results.log(losses.draw(made, 1))
+        results.outcome(made, 1)
+        results.log(made, warn=False)

@@ -306,7 +306,8 @@ def log(
     scenario: Given, *, program: Path | None = None, timeout: float | None = None, warn: bool = True
 ) -> Log:
     """The report and the log of a run. The output goes through a temporary file, so that it is never in memory as a whole.
-    Unless `warn` is False it gives `ScenarioWarning`s of what `Scenario.cautions` names."""
+    Unless `warn` is False it gives `ScenarioWarning`s of what `Scenario.cautions` names, and of reception ratios by which no losses were
+    drawn."""
     text = _text(scenario, warn)
     with tempfile.TemporaryDirectory(prefix="foldcairn-") as folder:
         path = programs.execute_to_file(["log"], text, Path(folder) / "log", program=program, timeout=timeout)
@@ -405,6 +406,9 @@ def _text(scenario: Given, warn: bool = True, *, long: bool = False, ratios: boo
     for caution in cautions.of(scenario, long=long) if warn else ():
         # The line that is named calls `run`, `log` and so on.
         warnings.warn(caution, ScenarioWarning, stacklevel=3)
+    if warn and not ratios and scenario.is_to_be_drawn:
+        told = f"this run loses nothing by the {len(scenario.ratio_lines()):,} reception ratios of the network; `foldcairn.run` draws their losses by a seed"
+        warnings.warn(told, ScenarioWarning, stacklevel=3)
     return (scenario.network_text(warn=False) if ratios else scenario.text(warn=False)).encode()
 
 
