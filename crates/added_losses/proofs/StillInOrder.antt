@@ -9,7 +9,7 @@ use Rattle.scenario_text.specs.PartsInOrder.{IsInOrder, script_lines}
 use Rattle.scenario_text.specs.ScenarioFacts.{AreEnds, IsStepOf}
 use Rattle.scenario_text.specs.ScenarioParts.{ScenarioParts}
 use Rattle.scenario_text.proofs.EachPair.{climbs_pairs, pairs_climb}
-use Rattle.bus_terms.specs.OverLines.{over}
+use Rattle.scenario_text.specs.OverLines.{over}
 use Rattle.added_losses.specs.LossesAdded.{AreInRange, AreNewLosses, IsWithLosses, with_new_line}
 use Rattle.lwb_base.specs.declared.limits.TheConstants.{MOST_SCRIPT_LINES}
 use Rattle.added_losses.proofs.LossLines.{AreInOrder, all_more, count_more, few_more, still_ordered}
@@ -27,6 +27,9 @@ is_with_more s more = record {
 pub count_with_more : (s : ScenarioParts) (more : List LoseLine) → AreNewLosses s.trace more → script_lines (with_more s more) ≡ script_lines s + length more
 count_with_more s more are =
     omega (arith, count_more more s.trace.losses (recursion_from_All _ more are.new) (pairs_climb _ more are.apart))
+
+pub few_with_more : (s : ScenarioParts) (more : List LoseLine) → script_lines (with_more s more) ≤ script_lines s + length more
+few_with_more s more = omega (arith, few_more more s.trace.losses)
 
 abbrev InRange : ScenarioParts → LoseLine → Type 0
 InRange s l = IsStepOf s l.frame l.slot l.step × AreEnds s.nodes l.from l.to

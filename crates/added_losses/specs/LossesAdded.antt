@@ -13,7 +13,7 @@ use Rattle.scenario_text.specs.ScenarioFacts.{AreEnds, IsStepOf}
 use Rattle.scenario_text.specs.ScenarioGrammar.{scenario_of}
 use Rattle.scenario_text.specs.ScenarioParts.{ScenarioParts}
 use Rattle.scenario_text.specs.declared.limits.TheConstants.{RUN_NODE_FRAMES}
-use Rattle.bus_terms.specs.OverLines.{over}
+use Rattle.scenario_text.specs.OverLines.{over}
 use Rattle.drawn_bus.specs.KeptLosses.{AddsLosses}
 use Rattle.lwb_base.specs.declared.limits.TheConstants.{MOST_SCRIPT_LINES}
 

@@ -6,9 +6,10 @@ ghost use Rattle.scenario_text.specs.Canonical.{IsSaid};
 ghost use Rattle.scenario_text.specs.FloodParts.{IsSealed};
 ghost use Rattle.scenario_text.specs.PartsInOrder.{script_lines};
 ghost use Rattle.scenario_text.specs.ScenarioGrammar.{IsScenario};
-ghost use Rattle.bus_terms.specs.OverLines.{over};
+ghost use Rattle.scenario_text.specs.OverLines.{over};
 ghost use Rattle.added_losses.specs.LossesAdded.{AreInRange, AreNewLosses, IsWithLosses, with_new_line};
 ghost use Rattle.lwb_base.specs.declared.limits.TheConstants.{MOST_SCRIPT_LINES};
+ghost use Rattle.scenario_text.specs.declared.limits.TheConstants.{BUS_SCRIPT_LINES};
 
 use crate::script::copied_script;
 use link_trace::{LoseLine, Trace};
@@ -27,13 +28,13 @@ pub fn with_losses(
 ) -> Result<Option<Scenario>, Memory>
     requires { AreInRange s.now lines.now }
     ensures some { IfOk result (λ o. IfSome o (λ t. IsWithLosses s.now lines.now t
-        × (script_lines s.now + length lines.now ≤ MOST_SCRIPT_LINES))) }
+        × (script_lines s.now + length lines.now ≤ MOST_SCRIPT_LINES) × (script_lines t ≤ MOST_SCRIPT_LINES))) }
     ensures still_said { IfOk result (λ o. IfSome o IsScenario) }
     ensures count { IfOk result (λ o. IfSome o (λ t. AreNewLosses s.now.trace lines.now
         → script_lines t ≡ script_lines s.now + length lines.now)) }
     ensures none { IfOk result (λ o. IfNone o (MOST_SCRIPT_LINES < script_lines s.now + length lines.now)) }
 {
-    if lines.len() > MOST_SCRIPT_LINES - line_count(s) {
+    if line_count(s) + lines.len() > MOST_SCRIPT_LINES {
         return Ok(None);
     }
     let trace = trace_with(alloc, s, lines)?;
@@ -43,6 +44,7 @@ pub fn with_losses(
 // How many script lines of all kinds the scenario has.
 fn line_count(s: &Scenario) -> usize
     ensures count { result ≡ script_lines s.now }
+    ensures few { result ≤ BUS_SCRIPT_LINES }
     ensures said { IsScenario s.now }
 {
     let trace = s.trace();

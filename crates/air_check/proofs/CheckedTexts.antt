@@ -1,9 +1,8 @@
 -- What a text that is divided says, by its parts.
 use Rattle.std.proofs.Common.{◌≡◌, ℕ, ◌+◌, List, [], Some, None, Option, Ok, Err, Result, codes, drop, sym, ap, ◌∙◌, subst, arith}
 use Rattle.std.specs.Str.Lines.{lines}
-use Rattle.scenario_text.specs.ScenarioGrammar.{scenario_of, scenario_of_lines}
+use Rattle.scenario_text.specs.ScenarioGrammar.{run_limits, scenario_of, scenario_of_lines}
 use Rattle.scenario_text.specs.ScenarioParts.{ScenarioParts}
-use Rattle.scenario_text.specs.declared.limits.TheConstants.{RUN_NODE_FRAMES}
 use Rattle.text_readers.specs.Divisions.{count_above, HasBelow, IsDivided}
 use Rattle.text_readers.specs.Faults.{IsAsDefined, draft_after_lines, ◌>>=◌}
 use Rattle.text_readers.specs.declared.fault.FaultKind.{FaultKind}
@@ -38,7 +37,7 @@ module _ (bytes above : List ℕ) (count : ℕ) (below : Option (List ℕ)) (div
   by_log s = log_in s lines_above rest >>= with_log s
 
   whole : checked_text bytes ≡ (scenario_of above >>= by_log)
-  whole = ap (λ (ls : List (List ℕ)). scenario_of_lines RUN_NODE_FRAMES ls >>= by_log) (sym divided.lines_above)
+  whole = ap (λ (ls : List (List ℕ)). scenario_of_lines run_limits ls >>= by_log) (sym divided.lines_above)
 
   pub scenario_fault : (e : ParseFault) → IsAsDefined {A = ScenarioParts} (Err e) (scenario_of above) → IsAsDefined {A = Checked} (Err e) (checked_text bytes)
   scenario_fault e is =

@@ -12,7 +12,7 @@ use Rattle.scenario_text.specs.ScenarioFacts.{AreEnds}
 use Rattle.scenario_text.specs.ScenarioGrammar.{IsScenario}
 use Rattle.scenario_text.specs.ScenarioParts.{ScenarioParts}
 use Rattle.scenario_text.specs.declared.lines.NodeLine.{NodeLine}
-use Rattle.scenario_text.proofs.SoundScenarios.{sound}
+use Rattle.scenario_text.proofs.SoundScenarios.{sound, sound_lines}
 use Rattle.radio_model.specs.Hearing.{Scene, HearsInScene, TunedThrough}
 use Rattle.radio_model.specs.OnAir.{Sending}
 use Rattle.radio_model.specs.Reaches.{HoldSame, IsAmong, IsReceivedBy}
@@ -56,7 +56,7 @@ pub receiver_known : (s : ScenarioParts) (ids : List ℕ) → IsScenario s → i
 receiver_known s ids said is a lines v x hears =
     let l = link_between a.lines _ _ _ x.node v hears.arrives in
     let there = subst (λ (t : Lines). Contains t.links l.0) lines l.1 in
-    let ends = All-contains (λ (k : LinkLine). AreEnds s.nodes k.from k.to) s.trace.links l.0 (sound s said).links there in
+    let ends = All-contains (λ (k : LinkLine). AreEnds s.nodes k.from k.to) s.trace.links l.0 (sound_lines s said).links there in
     let w = some_of (λ (n : NodeLine). n.node == l.0.to) s.nodes ends.to_known in
     subst (λ (u : ℕ). Contains ids u) (eqb-true w.0.node l.0.to w.2 ∙ l.3)
     (subst (λ (us : List ℕ). Contains us w.0.node) (sym is) (id_there s.nodes w.0 w.1))

@@ -1,9 +1,8 @@
 -- A text to be checked: the lines of a scenario, a line `log`, and the lines of a log.
 use Rattle.std.specs.Prelude.{ℕ, ◌+◌, List, [], ◌∷◌, Ok, Err, Result, take, drop, codes}
 use Rattle.std.specs.Str.Lines.{lines}
-use Rattle.scenario_text.specs.ScenarioGrammar.{scenario_of_lines}
+use Rattle.scenario_text.specs.ScenarioGrammar.{run_limits, scenario_of_lines}
 use Rattle.scenario_text.specs.ScenarioParts.{ScenarioParts}
-use Rattle.scenario_text.specs.declared.limits.TheConstants.{RUN_NODE_FRAMES}
 use Rattle.text_readers.specs.Divisions.{count_above}
 use Rattle.text_readers.specs.Faults.{◌>>=◌, draft_after_lines}
 use Rattle.text_readers.specs.declared.fault.FaultKind.{FaultKind}
@@ -21,6 +20,6 @@ abbrev pub checked_text : List ℕ → Result (ScenarioParts × List Entry) (ℕ
 checked_text bytes =
     let ls = lines bytes in
     let above = count_above (codes "log") ls in do
-      s ← scenario_of_lines RUN_NODE_FRAMES (take above ls)
+      s ← scenario_of_lines run_limits (take above ls)
       air ← log_in s above (drop above ls)
       Ok (s, air)

@@ -16,6 +16,7 @@ use crate::sent::{ids, transmissions_of};
 use crate::tuned_index::tuned_of;
 use crate::tunings::Tuned;
 use air_log::Air;
+use link_trace::NodeSet;
 use lwb_base::{Memory, NodeId};
 use radio_model::sending::Sending;
 use scenario_text::Scenario;
@@ -28,8 +29,8 @@ pub(crate) struct Index {
     pub(crate) nodes: Vec<NodeId>,
     /// The transmissions by start, then sender.
     pub(crate) sent: Vec<Sending>,
-    /// For each transmission the nodes that receive it if they are tuned to it, as a mask of their places.
-    pub(crate) receivers: Vec<u64>,
+    /// For each transmission the nodes that receive it if they are tuned to it.
+    pub(crate) receivers: Vec<NodeSet>,
     /// The tunings by node, then channel, then start.
     pub(crate) tuned: Vec<Tuned>,
 }

@@ -1,13 +1,17 @@
 -- The orders of a device, obeyed one after another.
-use Rattle.std.proofs.Common.{◌≡◌, ℕ, zero, suc, ◌+◌, List, [], ◌∷◌, ◌++◌, drop, fold, Some, None, refl, sym, ◌∙◌, ap, subst, arith}
-use Rattle.std.specs.Prelude.{All}
+use Rattle.std.proofs.Common.{◌≡◌, ℕ, zero, suc, ◌+◌, ◌≤◌, List, [], ◌∷◌, ◌++◌, drop, fold, length, Option, Some, None}
+use Rattle.std.proofs.Common.{refl, sym, ◌∙◌, ap, subst, arith}
+use Rattle.std.specs.Prelude.{All, option_map}
 use Rattle.std.specs.List.{slice_get}
 use Rattle.std.proofs.lemmas.List.{append_assoc, append-nil}
+use Rattle.std.proofs.lemmas.Option.{slice_get_past}
 use Rattle.std.proofs.lemmas.List.Sums.{fold-append}
 use Rattle.std.proofs.lemmas.List.Elements.{All-head, All-tail}
 use Rattle.lwb_base.specs.declared.order.Order.{Order}
 use Rattle.lwb_base.specs.declared.order.Order.TheVariants.{Listen, Off}
 use Rattle.lwb_base.proofs.Elements.{first_of, none_in}
+use Rattle.air_log.specs.declared.event_radio.OrderRef.{OrderRef}
+use Rattle.air_log.specs.EventOrders.{order_of}
 use Rattle.air_log.specs.Devices.{obeyed}
 use Rattle.air_log.specs.DeviceStates.{DeviceState, IsTimely}
 use Rattle.air_log.specs.DeviceChanges.{DeviceGoes}
@@ -77,3 +81,30 @@ drop_one (x ∷ xs) (suc k) = drop_one xs k
 
 pub next_left : {X : Type 0} (xs : List X) (k : ℕ) → drop 1 (drop k xs) ≡ drop (k + 1) xs
 next_left xs k = let same : suc k ≡ k + 1 = omega arith in drop_one xs k ∙ ap (λ (n : ℕ). drop n xs) same
+
+-- the order that is read at a place, after those before it have been obeyed
+module _ (clock : ℕ → ℕ) (t : ℕ) (all : List Order) where
+  next_of : (k : ℕ) (read : Option OrderRef) (x : OrderRef) → option_map order_of read ≡ slice_get all k → read ≡ Some x
+      → slice_get (drop k all) 0 ≡ Some (order_of x)
+  next_of k read x there is = first_left all k ∙ sym there ∙ ap (option_map order_of) is
+
+  pub timely_at : (k : ℕ) (read : Option OrderRef) (x : OrderRef) (a b : DeviceState) → option_map order_of read ≡ slice_get all k → read ≡ Some x
+      → AreObeyed clock t all (drop k all) a b → IsTimely (order_of x)
+  timely_at k read x a b there is so = next_is_timely clock t all (drop k all) (order_of x) (next_of k read x there is) so.timely
+
+  pub obeyed_at : (k : ℕ) (read : Option OrderRef) (x : OrderRef) (a b c : DeviceState) → option_map order_of read ≡ slice_get all k → read ≡ Some x
+      → AreObeyed clock t all (drop k all) a b → DeviceGoes t (λ q d. obeyed clock q.id t d (order_of x)) b c []
+      → AreObeyed clock t all (drop (k + 1) all) a c
+  obeyed_at k read x a b c there is so goes =
+      subst (λ (l : List Order). AreObeyed clock t all l a c) (next_left all k)
+      (one_more_obeyed clock t all (drop k all) (order_of x) a b c (next_of k read x there is) so goes)
+
+  -- and none is read there
+  pub none_at : (k : ℕ) (read : Option OrderRef) (a b : DeviceState) → option_map order_of read ≡ slice_get all k → read ≡ None
+      → AreObeyed clock t all (drop k all) a b → DeviceGoes t (λ q d. fold (obeyed clock q.id t) d all) a b []
+  none_at k read a b there is so = all_obeyed clock t all (drop k all) a b (first_left all k ∙ sym there ∙ ap (option_map order_of) is) so
+
+  -- or there are no more
+  pub none_after : (k : ℕ) (a b : DeviceState) → length all ≤ k → AreObeyed clock t all (drop k all) a b
+      → DeviceGoes t (λ q d. fold (obeyed clock q.id t) d all) a b []
+  none_after k a b few so = all_obeyed clock t all (drop k all) a b (first_left all k ∙ slice_get_past all k few) so

@@ -144,7 +144,9 @@ impl EventRadio {
         self.count = 0;
     }
 
-    // The order at that place, counted from 0. None comes if and only if it keeps no more than this many.
+    // The order at that place, counted from 0. None comes if and only if it keeps no more than this many. Its callers name the
+    // place, so that nothing is left of the choice between places.
+    #[inline(always)]
     pub(crate) fn at(&self, place: usize) -> Option<OrderRef<'_>>
         ensures order { option_map order_of result ≡ slice_get self.now.given place }
         ensures few { length self.now.given ≤ 4 }

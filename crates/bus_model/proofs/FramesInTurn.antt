@@ -14,7 +14,7 @@ use Rattle.bus_rules.specs.Tuning.{is_scan}
 use Rattle.bus_terms.specs.Bus.{Cost, before_frame, state_at}
 use Rattle.bus_terms.specs.Costs.{over_round, slot_sent, slot_window}
 use Rattle.bus_terms.specs.FloodOfText.{ids}
-use Rattle.bus_terms.specs.OverLines.{IsOverScenario}
+use Rattle.scenario_text.specs.OverLines.{IsOverScenario}
 use Rattle.bus_terms.specs.Packets.{bus_puts, put_at}
 use Rattle.bus_terms.specs.Rounds.{rank_in, rounds}
 use Rattle.bus_terms.specs.ScriptedStates.{is_on_and, power, states_after_end}

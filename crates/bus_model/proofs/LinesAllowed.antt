@@ -18,7 +18,7 @@ use Rattle.bus_rules.specs.declared.tune.Tune.{Tune}
 use Rattle.bus_terms.specs.ScriptedStates.{power}
 use Rattle.bus_terms.specs.FloodOfText.{ids}
 use Rattle.bus_terms.specs.Flooding.{has}
-use Rattle.bus_terms.specs.OverLines.{IsOverScenario}
+use Rattle.scenario_text.specs.OverLines.{IsOverScenario}
 use Rattle.plain_bus.specs.BusNodes.{MayDo, IsEarlyState}
 use Rattle.plain_bus.proofs.SoundOver.{sound_over}
 use Rattle.plain_bus.proofs.TextFloods.{has_known}

@@ -8,7 +8,7 @@ use Rattle.bus_rules.specs.States.{State, StateOff, at_core}
 use Rattle.bus_terms.specs.Bus.{before_frame, state_at}
 use Rattle.bus_terms.specs.FloodOfText.{ids}
 use Rattle.bus_terms.specs.Flooding.{has}
-use Rattle.bus_terms.specs.OverLines.{IsOverScenario}
+use Rattle.scenario_text.specs.OverLines.{IsOverScenario}
 use Rattle.bus_terms.specs.Rounds.{rank_in}
 use Rattle.scenario_text.specs.Setups.{setup_of}
 use Rattle.bus_terms.specs.ScriptedStates.{lines_of, state_after_line}

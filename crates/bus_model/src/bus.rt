@@ -4,7 +4,7 @@ ghost use Rattle.std.specs.Prelude.{◌≡◌, ◌<◌, IfOk, IfSome, IfNone, So
 ghost use Rattle.std.specs.List.{AllPairs};
 ghost use Rattle.bus_terms.specs.Bus.{bus_cost};
 ghost use Rattle.bus_terms.specs.Flooding.{has};
-ghost use Rattle.bus_terms.specs.OverLines.{over};
+ghost use Rattle.scenario_text.specs.OverLines.{over};
 ghost use Rattle.plain_bus.specs.FloodMasks.{traced};
 ghost use Rattle.scenario_text.specs.FloodParts.{knows, IsSealed};
 ghost use Rattle.scenario_text.specs.ScenarioParts.{ScenarioParts};
@@ -17,8 +17,8 @@ use bus_rules::{Delivery, DropLine};
 use bus_terms::{PutLine, SentPacket};
 use link_trace::Links;
 use lwb_base::{Memory, NodeId};
-use plain_bus::{Cost, Network, ScenarioOver, place_of};
-use scenario_text::Scenario;
+use plain_bus::{Cost, Network, place_of};
+use scenario_text::{Scenario, ScenarioOver};
 use std::alloc::Global;
 use std::marker::Model;
 

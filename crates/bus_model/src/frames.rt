@@ -17,7 +17,8 @@ use crate::script::tell_lines;
 use bus_terms::PutLine;
 use link_trace::Links;
 use lwb_base::Memory;
-use plain_bus::{Network, ScenarioOver};
+use plain_bus::Network;
+use scenario_text::ScenarioOver;
 use std::alloc::Global;
 
 /// This frame at all nodes, which is below the number of frames: the script from its line `told` on, the rounds, and the end.

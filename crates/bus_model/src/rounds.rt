@@ -20,7 +20,8 @@ ghost use Rattle.bus_model.specs.RoundCosts.{with_round, with_slots};
 use bus_rules::Part;
 use link_trace::Links;
 use lwb_base::{Memory, Rank};
-use plain_bus::{Network, ScenarioOver, parts_of_round};
+use plain_bus::{Network, parts_of_round};
+use scenario_text::ScenarioOver;
 use std::alloc::Global;
 
 /// The rounds of all ranks in this frame, one after another. `Err` means out of memory.

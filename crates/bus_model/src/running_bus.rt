@@ -4,7 +4,7 @@ ghost use Rattle.std.specs.Prelude.{◌≤◌, ◌<◌, ◌+◌, IfOk, OnOk};
 ghost use Rattle.lwb_base.specs.declared.limits.TheConstants.{MOST_FRAMES};
 ghost use Rattle.link_trace.specs.Passes.{Lines};
 ghost use Rattle.bus_terms.specs.Bus.{state_at};
-ghost use Rattle.bus_terms.specs.OverLines.{over};
+ghost use Rattle.scenario_text.specs.OverLines.{over};
 ghost use Rattle.plain_bus.specs.RunFloods.{HasRun};
 ghost use Rattle.bus_model.specs.FrameFloods.{frame_floods};
 ghost use Rattle.bus_model.specs.RunningBuses.{IsBeforeFrame};
@@ -13,8 +13,8 @@ use crate::frames::run_frame;
 use bus_terms::PutLine;
 use link_trace::Links;
 use lwb_base::Memory;
-use plain_bus::{Network, ScenarioOver};
-use scenario_text::Scenario;
+use plain_bus::Network;
+use scenario_text::{Scenario, ScenarioOver};
 use std::alloc::Global;
 
 /// The bus of a scenario between two frames.

@@ -6,7 +6,7 @@ ghost use Rattle.std.specs.List.{AllPairs};
 ghost use Rattle.bus_rules.specs.States.{IsAct};
 ghost use Rattle.bus_terms.specs.Bus.{before_frame, state_at};
 ghost use Rattle.bus_terms.specs.Flooding.{has};
-ghost use Rattle.bus_terms.specs.OverLines.{IsOverScenario};
+ghost use Rattle.scenario_text.specs.OverLines.{IsOverScenario};
 ghost use Rattle.bus_terms.specs.Packets.{put_by};
 ghost use Rattle.plain_bus.specs.BusNodes.{BusNode as NodeOf, MayDo};
 ghost use Rattle.plain_bus.specs.Networks.{IsReady};
@@ -15,8 +15,8 @@ ghost use Rattle.bus_model.specs.FrameNodes.{HavePower, CountsLinesBefore, puts_
 use bus_terms::PutLine;
 use link_trace::Links;
 use lwb_base::Memory;
-use plain_bus::{Network, ScenarioOver, place_of};
-use scenario_text::ScriptLine;
+use plain_bus::{Network, place_of};
+use scenario_text::{ScenarioOver, ScriptLine};
 
 /// The nodes carry out the script lines of this frame, from its line `from` on. What they put is added at the end of `puts`.
 /// Returns the place of the first line of a later frame. `Err` means out of memory.

@@ -9,6 +9,5 @@ pub mod RankOrders
 pub mod Received
 pub mod Distances
 pub mod HostedRounds
-pub mod OverLines
 pub mod Packets
 pub mod Fates

@@ -12,7 +12,7 @@ use Rattle.bus_rules.specs.States.{State, at_core}
 use Rattle.bus_rules.specs.Tuning.{is_scan}
 use Rattle.bus_terms.specs.Bus.{before_frame, bus_cost, bus_deliveries, bus_drops, frames_of, over_frames, ranks_of, state_at, states_after_frame}
 use Rattle.bus_terms.specs.Costs.{over_round, slot_sent, slot_window}
-use Rattle.bus_terms.specs.OverLines.{over}
+use Rattle.scenario_text.specs.OverLines.{over}
 use Rattle.bus_terms.specs.Rounds.{Slot, rank_in, round_deliveries, rounds}
 use Rattle.scenario_text.specs.Setups.{setup_of}
 use Rattle.bus_terms.specs.ScriptedStates.{is_on_and, lost_by, state_after_line, states_after_script, told_above}

@@ -14,7 +14,7 @@ use Rattle.bus_rules.specs.Slots.{part_of}
 use Rattle.bus_terms.specs.Bus.{frames_of, ranks_of, state_at}
 use Rattle.bus_terms.specs.Flooding.{STEPS, Setting, has, hears, moment}
 use Rattle.bus_terms.specs.FloodOfText.{ids}
-use Rattle.bus_terms.specs.OverLines.{over}
+use Rattle.scenario_text.specs.OverLines.{over}
 use Rattle.bus_terms.specs.Rounds.{before_slot, message_said, round_plan, slot_at, slots_of, takes_part}
 use Rattle.bus_terms.proofs.ListsInTurn.{each_of_pieces}
 use Rattle.bus_terms.proofs.ReceivedByPaths.{in_whole}

@@ -10,7 +10,7 @@ use Rattle.scenario_text.specs.ScenarioParts.{ScenarioParts}
 use Rattle.bus_rules.specs.Plans.{last_slot}
 use Rattle.bus_terms.specs.Bus.{state_at}
 use Rattle.bus_terms.specs.Flooding.{Setting, has, hears, moment}
-use Rattle.bus_terms.specs.OverLines.{over}
+use Rattle.scenario_text.specs.OverLines.{over}
 use Rattle.bus_terms.specs.Rounds.{before_slot, round_plan}
 use Rattle.bus_terms.proofs.KeptRanks.{hosted}
 use Rattle.drawn_bus.specs.DrawnScenarios.{AreSameOnBus}

@@ -2,6 +2,7 @@
 pub mod CollectedLosses
 pub mod LinesWithLosses
 pub mod LossesInRange
+pub mod DrawnOver
 -- for this crate alone
 pub mod LinesAmong
 pub mod FloodsAlike

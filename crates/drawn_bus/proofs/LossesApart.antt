@@ -15,7 +15,7 @@ use Rattle.bus_rules.specs.Plans.{last_slot}
 use Rattle.bus_terms.specs.Bus.{frames_of, ranks_of, state_at}
 use Rattle.bus_terms.specs.Flooding.{STEPS, Setting, has, moment}
 use Rattle.bus_terms.specs.FloodOfText.{ids}
-use Rattle.bus_terms.specs.OverLines.{over}
+use Rattle.scenario_text.specs.OverLines.{over}
 use Rattle.bus_terms.specs.Rounds.{rank_in, round_plan, slots_of}
 use Rattle.bus_terms.proofs.ListsInTurn.{each_of_pieces, in_turn_pairs, pairs_in_turn, pieces_in_turn, range_in_turn}
 use Rattle.bus_terms.proofs.ReceivedInRounds.{ids_rise}

@@ -10,13 +10,13 @@ use Rattle.lwb_base.specs.Profile.{IsProfile, Numbers}
 use Rattle.link_trace.specs.declared.lines.LinkLine.{LinkLine}
 use Rattle.link_trace.specs.declared.lines.LoseLine.{LoseLine}
 use Rattle.link_trace.specs.Passes.{Lines, cut_off, is_link, is_loss, passes}
-use Rattle.scenario_text.specs.ScenarioFacts.{AreEnds, IsSoundScenario, IsStepOf}
+use Rattle.scenario_text.specs.ScenarioFacts.{AreEnds, HasSoundLines, IsSoundScenario, IsStepOf}
 use Rattle.scenario_text.specs.ScenarioParts.{ScenarioParts}
 use Rattle.bus_rules.specs.Plans.{last_slot}
 use Rattle.bus_terms.specs.Bus.{ranks_of, state_at}
 use Rattle.bus_terms.specs.Flooding.{STEPS, Setting, moment}
 use Rattle.bus_terms.specs.FloodOfText.{ids}
-use Rattle.bus_terms.specs.OverLines.{over}
+use Rattle.scenario_text.specs.OverLines.{over}
 use Rattle.bus_terms.specs.Rounds.{round_plan, slots_of}
 use Rattle.bus_terms.proofs.ListsInTurn.{each_of_pieces}
 use Rattle.bus_terms.proofs.PlansOfRounds.{round_contends}
@@ -59,7 +59,7 @@ few_named : (n : Numbers) → IsProfile n → n.contend ≤ 4
 few_named n (inl is) = let none = ap (λ (m : Numbers). m.contend) is in omega (arith, none)
 few_named n (inr is) = is.1
 
-module _ (s : ScenarioParts) (t : Lines) (sound : IsSoundScenario s) where
+module _ (s : ScenarioParts) (t : Lines) (sound : IsSoundScenario s) (own : HasSoundLines s) where
   abbrev d : ScenarioParts
   d = over s t
 
@@ -73,7 +73,7 @@ module _ (s : ScenarioParts) (t : Lines) (sound : IsSoundScenario s) where
       let parts = and_parts (sends && (passes s.trace f j k u v && not (x.passes k u v))) (receives_otherwise x (flood_over s.trace f j x) k v) lost in
       let link = and_parts (passes s.trace f j k u v) (not (x.passes k u v)) (and_parts sends (passes s.trace f j k u v && not (x.passes k u v)) parts.0).1 in (
         record { in_run = in_run; in_frame = in_frame; in_slot = omega (arith, in_flood) },
-        ends_of (AreEnds s.nodes) s.trace.links (recursion_from_All (λ l. AreEnds s.nodes l.from l.to) s.trace.links sound.links) u v
+        ends_of (AreEnds s.nodes) s.trace.links (recursion_from_All (λ l. AreEnds s.nodes l.from l.to) s.trace.links own.links) u v
             (there_if_passes s.trace f j k u v link.0),
       )
 

@@ -10,7 +10,7 @@ use Rattle.link_trace.specs.declared.lines.LoseLine.{LoseLine}
 use Rattle.link_trace.specs.Passes.{is_link}
 use Rattle.scenario_text.specs.ScenarioParts.{ScenarioParts}
 use Rattle.bus_terms.specs.Bus.{bus_cost, bus_deliveries, bus_drops}
-use Rattle.bus_terms.specs.OverLines.{over}
+use Rattle.scenario_text.specs.OverLines.{over}
 use Rattle.drawn_links.specs.Ratios.{is_begun, is_of_link, ratio_in}
 use Rattle.drawn_links.specs.declared.ratio_line.RatioLine.{RatioLine}
 use Rattle.drawn_links.proofs.DrawnByLinks.{full_ratios, same_losses}

@@ -17,7 +17,7 @@ use Rattle.bus_rules.specs.States.{State}
 use Rattle.bus_terms.specs.Costs.{length_at, over_round, slot_sent, slot_window}
 use Rattle.bus_terms.specs.Flooding.{Moment, has, moment, steps, STEPS}
 use Rattle.bus_terms.specs.FloodOfText.{ids}
-use Rattle.bus_terms.specs.OverLines.{over}
+use Rattle.scenario_text.specs.OverLines.{over}
 use Rattle.bus_terms.specs.Rounds.{Slot, accepted_at, after_round, after_slot, before_slot, closed_at, closed_slot_of, delivery_in_slot, left_by}
 use Rattle.bus_terms.specs.Rounds.{message_said, round_deliveries, round_of_rank, round_plan, slot_at, slot_deliveries, slot_of_round, slots_of}
 

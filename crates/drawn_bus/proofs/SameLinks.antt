@@ -6,7 +6,7 @@ use Rattle.link_trace.specs.Passes.{Lines, captured, passes}
 use Rattle.scenario_text.specs.ScenarioParts.{ScenarioParts}
 use Rattle.bus_rules.specs.States.{State}
 use Rattle.bus_terms.specs.Flooding.{Setting, moment}
-use Rattle.bus_terms.specs.OverLines.{over}
+use Rattle.scenario_text.specs.OverLines.{over}
 use Rattle.bus_terms.specs.Rounds.{slot_of_round}
 use Rattle.drawn_bus.specs.DrawnScenarios.{AreSameOnBus}
 use Rattle.drawn_bus.proofs.BusesAlike.{same_bus}

@@ -2,7 +2,7 @@
 use Rattle.std.specs.Prelude.{◌≡◌, ℕ, List}
 use Rattle.scenario_text.specs.ScenarioParts.{ScenarioParts}
 use Rattle.bus_terms.specs.Bus.{bus_cost, bus_deliveries, bus_drops}
-use Rattle.bus_terms.specs.OverLines.{over}
+use Rattle.scenario_text.specs.OverLines.{over}
 use Rattle.drawn_links.specs.DrawnLosses.{drawn}
 use Rattle.drawn_links.specs.declared.ratio_line.RatioLine.{RatioLine}
 

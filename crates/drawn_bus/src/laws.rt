@@ -5,14 +5,24 @@ ghost use Rattle.std.specs.Prelude.{◌≡◌, ◌≢◌, ◌≤◌, ◌==◌, �
 ghost use Rattle.std.specs.List.{AllPairs, list_all, list_any};
 ghost use Rattle.link_trace.specs.declared.lines.LoseLine.{LoseLine};
 ghost use Rattle.link_trace.specs.Passes.{Lines, captured, is_link, is_loss, passes};
-ghost use Rattle.scenario_text.specs.ScenarioFacts.{AreEnds, IsSoundScenario, IsStepOf};
+ghost use Rattle.scenario_text.specs.ScenarioFacts.{AreEnds, HasSoundLines, IsSoundScenario, IsStepOf};
+ghost use Rattle.scenario_text.specs.ScenarioGrammar.{IsScenario};
 ghost use Rattle.scenario_text.specs.ScenarioParts.{ScenarioParts};
-ghost use Rattle.bus_terms.specs.OverLines.{over};
+ghost use Rattle.bus_terms.specs.Bus.{Ordered, bus_deliveries};
+ghost use Rattle.scenario_text.specs.OverLines.{IsOverScenario, over};
 ghost use Rattle.drawn_links.specs.Ratios.{ratio_in};
 ghost use Rattle.drawn_links.specs.declared.ratio_line.RatioLine.{RatioLine};
 ghost use Rattle.drawn_bus.specs.DrawnScenarios.{AreSameOnBus, drawn_scenario};
 ghost use Rattle.drawn_bus.specs.FloodLosses.{losses_of_bus};
 ghost use Rattle.drawn_bus.specs.KeptLosses.{AddsLosses, kept_losses};
+
+/// Every drawn scenario is a scenario over other lines, whatever the ratios and the seed (`over`): what is proved of those holds of
+/// it. So on its bus each stream of a boot is delivered in order at each node, and no packet twice (`ordered`).
+pub fn drawn_scenarios_are_over_scenarios()
+    ensures over { (s : ScenarioParts) (ratios : List RatioLine) (seed : ℕ) → IsScenario s → IsOverScenario (drawn_scenario s ratios seed) }
+    ensures ordered { (s : ScenarioParts) (ratios : List RatioLine) (seed : ℕ) → IsScenario s
+        → Ordered (bus_deliveries (drawn_scenario s ratios seed)) }
+{}
 
 /// The bus depends on its trace by two things alone: which links pass in which step, and whom a node captures.
 pub fn links_that_pass_give_the_bus()
@@ -39,7 +49,7 @@ pub fn floods_have_the_kept_losses()
 /// Each of them is a line that the scenario may have, over whatever lines its bus runs: its frame, slot and step are in range, and
 /// it is of a link.
 pub fn losses_of_floods_are_in_range()
-    ensures { (s : ScenarioParts) (t : Lines) → IsSoundScenario s
+    ensures { (s : ScenarioParts) (t : Lines) → IsSoundScenario s → HasSoundLines s
         → All (λ l. IsStepOf s l.frame l.slot l.step × AreEnds s.nodes l.from l.to) (losses_of_bus s (over s t)) }
 {}
 

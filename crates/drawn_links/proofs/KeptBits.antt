@@ -2,7 +2,7 @@
 use Rattle.std.proofs.Common.{◌≡◌, ℕ, Bool, true, false, not, ◌&&◌, ◌==◌, nat_lt, List, length, get_or, if◌then◌else◌, refl, sym, ◌∙◌, ap}
 use Rattle.std.specs.Int.{bit_at}
 use Rattle.lwb_base.proofs.Truths.{one_if}
-use Rattle.link_trace.specs.Masks.{IsMask}
+use Rattle.link_trace.specs.Masks.{IsMask, IsMaskAmong}
 use Rattle.link_trace.specs.Passes.{Lines, passes}
 use Rattle.drawn_links.specs.DrawnLosses.{drawn, is_drawn}
 use Rattle.drawn_links.specs.Drawings.{IsWithout, has_coins}
@@ -20,6 +20,11 @@ less_lost true true true = refl
 less_lost true false true = refl
 less_lost true true false = refl
 less_lost true false false = refl
+
+less_asked : (a n p l : Bool) → (if l then 0 else one_if (a && (n && p))) ≡ one_if (a && (n && (p && not l)))
+less_asked false n p true = refl
+less_asked false n p false = refl
+less_asked true n p l = less_lost n p l
 
 module _ (t : Lines) (ratios : List RatioLine) (seed frames f j k : ℕ) (nodes : List ℕ) where
   -- where coins are thrown, the links to a node that pass and are not drawn
@@ -62,4 +67,23 @@ module _ (t : Lines) (ratios : List RatioLine) (seed frames f j k : ℕ) (nodes 
   all_from_it u mask none is i =
       let v = get_or nodes i 0 in
       is i ∙ ap (λ (b : Bool). one_if (nat_lt i (length nodes) && b))
+      (sym (passes_drawn t ratios seed frames f j k u v ∙ all_pass (passes t f j k u v) u v none))
+
+  -- the same of those of a set
+  pub kept_among : (u among mask kept : ℕ) → has_coins frames f j k ≡ true → IsMaskAmong (λ v. passes t f j k u v) nodes among mask
+      → IsWithout (λ i. is_drawn ratios seed f j k u (get_or nodes i 0)) mask kept
+      → IsMaskAmong (λ v. passes (drawn t ratios seed frames) f j k u v) nodes among kept
+  kept_among u among mask kept coins is without i =
+      let v = get_or nodes i 0 in
+      let lost = is_drawn ratios seed f j k u v in
+      let asked = bit_at among i == 1 in
+      without i ∙ ap (λ (n : ℕ). if lost then 0 else n) (is i) ∙ less_asked asked (nat_lt i (length nodes)) (passes t f j k u v) lost
+      ∙ ap (λ (b : Bool). one_if (asked && (nat_lt i (length nodes) && (passes t f j k u v && not (b && lost))))) (sym coins)
+      ∙ ap (λ (b : Bool). one_if (asked && (nat_lt i (length nodes) && b))) (sym (passes_drawn t ratios seed frames f j k u v))
+
+  pub all_among : (u among mask : ℕ) → has_coins frames f j k ≡ false → IsMaskAmong (λ v. passes t f j k u v) nodes among mask
+      → IsMaskAmong (λ v. passes (drawn t ratios seed frames) f j k u v) nodes among mask
+  all_among u among mask none is i =
+      let v = get_or nodes i 0 in
+      is i ∙ ap (λ (b : Bool). one_if ((bit_at among i == 1) && (nat_lt i (length nodes) && b)))
       (sym (passes_drawn t ratios seed frames f j k u v ∙ all_pass (passes t f j k u v) u v none))

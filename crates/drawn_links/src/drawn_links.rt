@@ -7,14 +7,13 @@ ghost use Rattle.drawn_links.specs.Drawings.{IsWithout, has_coins as throws_coin
 
 use crate::Ratios;
 use crate::coins::{coin, is_within, link_key, start_of, step_key};
-use link_trace::bits::{lowest, without_bit};
-use link_trace::{Links, Trace};
+use link_trace::{Links, NodeSet, Trace};
 use lwb_base::{FLOOD_STEPS, NodeId, greatest_slot};
 use std::marker::Model;
 
 /// The links of a sealed trace which are also lost where the coin of a seed does not pass by the ratio of the link. Coins are
 /// thrown in the frames below a number. No list of losses is made: a coin is thrown when a mask is asked for, and only for a link
-/// that the trace lets through. Contracts see the trace, the lines of the ratios, the seed and the number of frames.
+/// that the trace lets through and that is asked for. Contracts see the trace, the lines of the ratios, the seed and the number of frames.
 #[derive(Drop)]
 pub struct DrawnLinks<'a> {
     trace: &'a Trace,
@@ -60,7 +59,7 @@ impl<'a> DrawnLinks<'a> {
     }
 
     // Those of the senders whose link to the node passes by its coin.
-    fn kept_from(&self, senders: u64, frame: u32, key: u64, at: u8) -> u64
+    fn kept_from(&self, senders: NodeSet, frame: u32, key: u64, at: u8) -> NodeSet
         requires at { at < length self.now.trace.nodes }
         requires senders { (i : ℕ) → bit_at senders i ≡ 1 → i < length self.now.trace.nodes }
         requires key { key < 2 ^ 47 }
@@ -70,18 +69,18 @@ impl<'a> DrawnLinks<'a> {
     {
         let mut kept = senders;
         let mut rest = senders;
-        while rest != 0 {
-            let place = lowest(rest);
-            rest = without_bit(rest, place);
+        while !rest.is_empty() {
+            let place = rest.lowest();
+            rest = rest.without(place);
             if self.is_drawn(frame, key, place, at) {
-                kept = without_bit(kept, place);
+                kept = kept.without(place);
             }
         }
         kept
     }
 
     // Those of the receivers to which a link from the node passes by its coin.
-    fn kept_to(&self, receivers: u64, frame: u32, key: u64, from: u8) -> u64
+    fn kept_to(&self, receivers: NodeSet, frame: u32, key: u64, from: u8) -> NodeSet
         requires from { from < length self.now.trace.nodes }
         requires receivers { (i : ℕ) → bit_at receivers i ≡ 1 → i < length self.now.trace.nodes }
         requires key { key < 2 ^ 47 }
@@ -91,11 +90,11 @@ impl<'a> DrawnLinks<'a> {
     {
         let mut kept = receivers;
         let mut rest = receivers;
-        while rest != 0 {
-            let place = lowest(rest);
-            rest = without_bit(rest, place);
+        while !rest.is_empty() {
+            let place = rest.lowest();
+            rest = rest.without(place);
             if self.is_drawn(frame, key, from, place) {
-                kept = without_bit(kept, place);
+                kept = kept.without(place);
             }
         }
         kept
@@ -138,11 +137,32 @@ impl<'a> Links for DrawnLinks<'a> {
         if !has_coins(self.frames, frame, slot, step) {
             return senders;
         }
-        self.kept_from(senders, frame, step_key(frame, slot, step), at)
+        self.kept_from(
+            NodeSet::of_word(senders),
+            frame,
+            step_key(frame, slot, step),
+            at,
+        )
+        .word()
     }
 
     fn to_mask(&self, frame: u32, slot: u8, step: u8, from: u8) -> u64 {
         let receivers = self.trace.to_mask(frame, slot, step, from);
+        if !has_coins(self.frames, frame, slot, step) {
+            return receivers;
+        }
+        self.kept_to(
+            NodeSet::of_word(receivers),
+            frame,
+            step_key(frame, slot, step),
+            from,
+        )
+        .word()
+    }
+
+    // Coins are thrown for those of the set alone.
+    fn to_mask_among(&self, frame: u32, slot: u8, step: u8, from: u8, among: NodeSet) -> NodeSet {
+        let receivers = self.trace.to_mask_among(frame, slot, step, from, among);
         if !has_coins(self.frames, frame, slot, step) {
             return receivers;
         }

@@ -1,12 +1,12 @@
 -- The losses of a step, node by node.
-use Rattle.std.proofs.Common.{◌≡◌, ◌<◌, ◌+◌, ℕ, suc, List, [], ◌∷◌, ◌++◌, Bool, true, false, ◌&&◌, not, ◌==◌, cond, nat_lt, if◌then◌else◌, min}
-use Rattle.std.proofs.Common.{filter, flat_map, is_some, map, take, length, get_or, refl, sym, ◌∙◌, ap, arith, append-nil, append_assoc, bit_and}
+use Rattle.std.proofs.Common.{◌≡◌, ◌<◌, ◌+◌, ℕ, suc, List, [], ◌∷◌, ◌++◌, Bool, true, false, ◌&&◌, not, ◌==◌, cond}
+use Rattle.std.proofs.Common.{filter, flat_map, is_some, map, take, length, get_or, refl, sym, ◌∙◌, ap, arith, append-nil, append_assoc}
 use Rattle.std.specs.Int.{bit_at}
 use Rattle.std.specs.List.{range_with_len}
 use Rattle.std.proofs.lemmas.Grind.{flat_map-append}
 use Rattle.std.proofs.lemmas.List.{get_or-map, map-append, take_more}
 use Rattle.std.proofs.lemmas.List.Elements.{filter-append}
-use Rattle.std.proofs.lemmas.Nat.Bits.{bit_at-zero, bit_at_and}
+use Rattle.std.proofs.lemmas.Nat.Bits.{bit_at-zero}
 use Rattle.lwb_base.proofs.Lists.{range_next}
 use Rattle.lwb_base.proofs.Truths.{and_false}
 use Rattle.link_trace.specs.Masks.{IsMask}
@@ -79,18 +79,6 @@ module _ {Y : Type 0} where
 pub unset : (test : ℕ → Bool) (nodes : List ℕ) (mask : ℕ) → IsMask test nodes mask → mask ≡ 0 → (i : ℕ) → i < length nodes → test (get_or nodes i 0) ≡ false
 unset test nodes mask is none i below =
     sym (bit_tells nodes test mask i is below) ∙ ap (λ (n : ℕ). bit_at n i == 1) none ∙ ap (λ (n : ℕ). n == 1) (bit_at-zero i)
-
-both_bits : (n a b : Bool) → min (if n && a then 1 else 0) (if n && b then 1 else 0) ≡ (if n && (a && b) then 1 else 0)
-both_bits true true true = refl
-both_bits true true false = refl
-both_bits true false true = refl
-both_bits true false false = refl
-both_bits false a b = refl
-
--- the nodes of two masks
-pub both_masks : (p q : ℕ → Bool) (nodes : List ℕ) (a b : ℕ) → IsMask p nodes a → IsMask q nodes b → IsMask (λ v. p v && q v) nodes (bit_and a b)
-both_masks p q nodes a b a_is b_is i =
-    bit_at_and a b i ∙ rw (a_is i, b_is i) (both_bits (nat_lt i (length nodes)) (p (get_or nodes i 0)) (q (get_or nodes i 0)))
 
 -- the node of the station at a place
 pub node_read : (m : Moment) (nodes : List ℕ) (xs : List Station) (i : ℕ) (x : Station) → xs ≡ map (station_at m) nodes → i < length nodes

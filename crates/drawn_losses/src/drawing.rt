@@ -2,7 +2,7 @@
 
 ghost use Rattle.std.specs.Prelude.{◌≡◌, IfOk};
 ghost use Rattle.scenario_text.specs.FloodParts.{IsSealed};
-ghost use Rattle.bus_terms.specs.OverLines.{over};
+ghost use Rattle.scenario_text.specs.OverLines.{over};
 ghost use Rattle.drawn_bus.specs.FloodLosses.{losses_of_bus};
 ghost use Rattle.drawn_links.specs.Drawings.{lines_of};
 

@@ -2,7 +2,7 @@
 
 ghost use Rattle.std.specs.Prelude.{◌≡◌, IfOk};
 ghost use Rattle.scenario_text.specs.FloodParts.{IsSealed};
-ghost use Rattle.bus_terms.specs.OverLines.{over};
+ghost use Rattle.scenario_text.specs.OverLines.{over};
 ghost use Rattle.plain_bus.specs.FloodMasks.{traced};
 ghost use Rattle.drawn_bus.specs.FloodLosses.{losses_of_bus};
 ghost use Rattle.drawn_losses.specs.StepLosses.{HaveSameCaptures};
@@ -11,8 +11,7 @@ use crate::frame_losses::losses_in_frame;
 use bus_model::RunningBus;
 use link_trace::{Links, LoseLine};
 use lwb_base::Memory;
-use plain_bus::ScenarioOver;
-use scenario_text::Scenario;
+use scenario_text::{Scenario, ScenarioOver};
 use std::alloc::Global;
 
 /// The losses of the scenario's run over `links` that change what somebody receives in it, against the scenario's own trace: by

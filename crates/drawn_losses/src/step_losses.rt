@@ -10,8 +10,7 @@ ghost use Rattle.drawn_bus.specs.FloodLosses.{line_at};
 ghost use Rattle.drawn_bus.specs.KeptLosses.{flood_over, receives_otherwise as receives_otherwise_in};
 ghost use Rattle.drawn_losses.specs.StepLosses.{HaveSameCaptures, losses_of_step};
 
-use link_trace::bits::has_bit;
-use link_trace::{Links, LoseLine};
+use link_trace::{Links, LoseLine, NodeSet};
 use lwb_base::Memory;
 use plain_bus::{Flood, Stations, hears};
 
@@ -35,24 +34,24 @@ pub fn losses_in_step<M: Links, B: Links>(
         → lines.new.items
         ≡ lines.old.items ++ losses_of_step (B.lines base.now) flood.now.frame flood.now.slot (M.nodes links.now) x step) }
 {
-    if now.senders == 0 {
+    if now.senders.is_empty() {
         return Ok(());
     }
     let changed = changed_nodes(links, base, flood, now, step);
-    if changed == 0 {
+    if changed.is_empty() {
         return Ok(());
     }
     losses_at(links, base, flood, now, step, changed, lines)
 }
 
-// Those at the nodes of the mask, which receive something else.
+// Those at these nodes, which receive something else.
 fn losses_at<M: Links, B: Links>(
     links: &M,
     base: &B,
     flood: &Flood,
     now: &Stations,
     step: u8,
-    changed: u64,
+    changed: NodeSet,
     lines: &mut Vec<LoseLine>,
 ) -> Result<(), Memory>
     requires sealed { length now.now.each.items ≡ length (M.nodes links.now) }
@@ -66,7 +65,7 @@ fn losses_at<M: Links, B: Links>(
 {
     for place in 0..now.each.len() as u8 {
         let lost = lost_from(links, base, flood, now.senders, step, place);
-        add_losses(flood, now, step, place, lost & changed, lines)?;
+        add_losses(flood, now, step, place, lost.and(changed), lines)?;
     }
     Ok(())
 }
@@ -78,7 +77,7 @@ fn changed_nodes<M: Links, B: Links>(
     flood: &Flood,
     now: &Stations,
     step: u8,
-) -> u64
+) -> NodeSet
     requires sealed { length now.now.each.items ≡ length (M.nodes links.now) }
     requires few { length (M.nodes links.now) ≤ MOST_NODES }
     requires same { B.nodes base.now ≡ M.nodes links.now }
@@ -87,10 +86,10 @@ fn changed_nodes<M: Links, B: Links>(
         → SendsForInitiators x (moment x step) → AreAt (moment x step) (M.nodes links.now) now.now
         → IsMask (λ v. receives_otherwise_in x (flood_over (B.lines base.now) flood.now.frame flood.now.slot x) step v) (M.nodes links.now) result }
 {
-    let mut changed = 0;
+    let mut changed = NodeSet::EMPTY;
     for place in 0..now.each.len() as u8 {
         if receives_otherwise(links, base, flood, now, step, place) {
-            changed |= 1u64 << place;
+            changed = changed.with(place);
         }
     }
     changed
@@ -122,10 +121,10 @@ fn lost_from<M: Links, B: Links>(
     links: &M,
     base: &B,
     flood: &Flood,
-    senders: u64,
+    senders: NodeSet,
     step: u8,
     from: u8,
-) -> u64
+) -> NodeSet
     requires from { from < length (M.nodes links.now) }
     requires few { length (M.nodes links.now) ≤ MOST_NODES }
     requires same { B.nodes base.now ≡ M.nodes links.now }
@@ -134,20 +133,21 @@ fn lost_from<M: Links, B: Links>(
         && (passes (B.lines base.now) flood.now.frame flood.now.slot step (slice_index (M.nodes links.now) from) v
         && not (passes (M.lines links.now) flood.now.frame flood.now.slot step (slice_index (M.nodes links.now) from) v))) (M.nodes links.now) result }
 {
-    if !has_bit(senders, from) {
-        return 0;
+    if !senders.has(from) {
+        return NodeSet::EMPTY;
     }
-    let passing = links.to_mask(flood.frame, flood.slot, step, from);
-    base.to_mask(flood.frame, flood.slot, step, from) & !passing
+    let passing = NodeSet::of_word(links.to_mask(flood.frame, flood.slot, step, from));
+    let by_base = NodeSet::of_word(base.to_mask(flood.frame, flood.slot, step, from));
+    by_base.except(passing)
 }
 
-// Adds those of the links from the node at this place to the nodes of the mask.
+// Adds those of the links from the node at this place to these nodes.
 fn add_losses(
     flood: &Flood,
     now: &Stations,
     step: u8,
     from: u8,
-    lost: u64,
+    lost: NodeSet,
     lines: &mut Vec<LoseLine>,
 ) -> Result<(), Memory>
     requires from { from < length now.now.each.items }
@@ -155,12 +155,12 @@ fn add_losses(
     ensures { OnOk result ((m : Moment) (nodes : List ℕ) (test : ℕ → Bool) → now.now.each.items ≡ map (station_at m) nodes → IsMask test nodes lost
         → lines.new.items ≡ lines.old.items ++ map (line_at flood.now.frame flood.now.slot step (slice_index nodes from)) (filter test nodes)) }
 {
-    if lost == 0 {
+    if lost.is_empty() {
         return Ok(());
     }
     let sender = now.each[usize::from(from)].node;
     for place in 0..now.each.len() as u8 {
-        if has_bit(lost, place) {
+        if lost.has(place) {
             lines.push(LoseLine {
                 frame: flood.frame,
                 slot: flood.slot,

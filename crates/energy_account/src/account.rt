@@ -2,6 +2,7 @@
 
 ghost use Rattle.std.specs.Prelude.{◌≡◌, ◌<◌, IfOk, true, length, get_or};
 ghost use Rattle.scenario_text.specs.FloodParts.{knows};
+ghost use Rattle.scenario_text.specs.ScenarioFacts.{IsSoundScenario};
 ghost use Rattle.scenario_text.specs.ScenarioGrammar.{IsScenario};
 ghost use Rattle.scenario_clocks.specs.StatedClocks.{scenario_clock};
 ghost use Rattle.air_log.specs.Lawful.{Lawful};
@@ -13,9 +14,10 @@ use crate::Energy;
 use crate::energy::energy_told;
 use crate::times::Times;
 use air_log::{Air, NodeCharge, trail_of};
+use link_trace::Links;
 use lwb_base::{Memory, NodeId};
 use scenario_clocks::stated_clocks;
-use scenario_text::Scenario;
+use scenario_text::{NodeLine, Scenario, ScenarioOver};
 use std::alloc::Global;
 use std::marker::Model;
 use tick_clock::DriftClock;
@@ -58,11 +60,11 @@ impl Account {
         Ok(Account { lines })
     }
 
-    /// The same, by what was counted during the run: what the windows of each node come to and in how many frames it scanned,
-    /// by ascending ids.
-    pub fn of_run(
+    /// The same over any links, by what was counted during the run: what the windows of each node come to and in how many frames
+    /// it scanned, by ascending ids.
+    pub fn of_run<M: Links>(
         alloc: Global,
-        s: &Scenario,
+        s: &ScenarioOver<'_, M>,
         a: &Air,
         charges: &[NodeCharge],
     ) -> Result<Account, Memory>
@@ -70,7 +72,7 @@ impl Account {
         requires charges { charges.now ≡ charges_in s.now (scenario_clock s.now) a.now }
         ensures { IfOk result (λ account. IsAccount s.now (scenario_clock s.now) a.now account) }
     {
-        let nodes = s.nodes();
+        let nodes = sound_nodes(s);
         let times = Times::of(alloc, a)?;
         let mut lines = Vec::new(alloc);
         for place in 0..nodes.len() {
@@ -93,6 +95,15 @@ impl Account {
     {
         self.lines.iter().find(|l| l.node == node).map(|l| l.energy)
     }
+}
+
+// The nodes of a scenario over links. Its number of frames tells that it is sound.
+fn sound_nodes<'a, M: Links>(s: &'a ScenarioOver<'_, M>) -> &'a [NodeLine]
+    ensures value { result.now ≡ s.now.nodes }
+    ensures sound { IsSoundScenario s.now }
+{
+    let _frames = s.frames();
+    s.nodes()
 }
 
 fn charge_at(charges: &[NodeCharge], place: usize) -> NodeCharge

@@ -15,6 +15,6 @@ impl PlacedOrder {
     pub fn is_before(&self, other: &PlacedOrder) -> bool
         ensures { result ≡ is_before self.now other.now }
     {
-        (self.tick < other.tick) | ((self.tick == other.tick) & (self.place < other.place))
+        self.tick < other.tick || self.tick == other.tick && self.place < other.place
     }
 }

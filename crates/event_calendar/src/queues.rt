@@ -1,6 +1,6 @@
 //! The queues of all classes.
 
-ghost use Rattle.std.specs.Prelude.{◌≡◌, ◌<◌, ◌≤◌, ℕ, List, [], Contains, length, IfOk};
+ghost use Rattle.std.specs.Prelude.{◌≡◌, ◌<◌, ◌≤◌, ℕ, List, [], Contains, length, IfOk, Some};
 ghost use Rattle.std.specs.declared.option.Option.{Option as OptionOf};
 ghost use Rattle.event_calendar.specs.Orders.{Order};
 ghost use Rattle.event_calendar.specs.Waiting as waiting;
@@ -71,9 +71,13 @@ impl Queues {
         ensures { result ≡ first_order self.now }
     {
         let end = order(Class::SendingEnd, self.ends.first());
-        let alarm = order(Class::Alarm, self.alarms.first());
         let start = order(Class::SendingStart, self.starts.first());
-        earlier(earlier(end, alarm), start)
+        // Each node whose power is on has an alarm, so that mostly there is one.
+        let Some(alarm) = order(Class::Alarm, self.alarms.first()) else {
+            return earlier(earlier(end, None), start);
+        };
+        let first = with_second(end, alarm);
+        Some(with_first(first, start))
     }
 }
 
@@ -82,6 +86,28 @@ fn order(class: Class, entry: Option<PlacedOrder>) -> Option<(u64, Class, u8)>
 {
     let entry = entry?;
     Some((entry.tick, class, entry.place))
+}
+
+// As `earlier`, where there is a second.
+#[inline(always)]
+fn with_second(first: Option<(u64, Class, u8)>, second: (u64, Class, u8)) -> (u64, Class, u8)
+    ensures { Some result ≡ queues.earlier_order first (Some second) }
+{
+    match first {
+        Some(one) => { if second.0 < one.0 { second } else { one } }
+        None => second,
+    }
+}
+
+// As `earlier`, where there is a first.
+#[inline(always)]
+fn with_first(first: (u64, Class, u8), second: Option<(u64, Class, u8)>) -> (u64, Class, u8)
+    ensures { Some result ≡ queues.earlier_order (Some first) second }
+{
+    match second {
+        Some(other) => { if other.0 < first.0 { other } else { first } }
+        None => first,
+    }
 }
 
 // The earlier of two by tick. At one tick it is the first, whose class comes before the other's.

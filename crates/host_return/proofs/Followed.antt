@@ -1,13 +1,10 @@
 -- One return after another.
 use Rattle.std.proofs.Common.{◌≡◌, ◌<◌, inl, inr, List, [], ◌∷◌, length, reverse, Result, Ok, Err, IfOk, refl, sym, ◌∙◌, ap, subst, arith}
 use Rattle.std.proofs.lemmas.Bool.{cases_lt}
-use Rattle.std.proofs.lemmas.List.{length_push, append-nil, reverse-append, reverse-reverse}
+use Rattle.std.proofs.lemmas.List.{length_push, reverse-append, reverse-reverse}
 use Rattle.lwb_base.specs.declared.outside.Memory.{Memory}
-use Rattle.scenario_text.specs.AddedLines.{IsWithScript, HasRoom, IsMerged, in_frame}
 use Rattle.scenario_text.specs.ScenarioGrammar.{IsScenario}
 use Rattle.scenario_text.specs.ScenarioParts.{ScenarioParts}
-use Rattle.scenario_text.proofs.LinesAdded.{one_with_script}
-use Rattle.scenario_text.proofs.OrderedParts.{in_order_said}
 use Rattle.scenario_text.proofs.SoundScenarios.{sound}
 use Rattle.scenario_clocks.proofs.StatedDrift.{scenario_clocks_drift}
 use Rattle.scenario_clocks.specs.StatedClocks.{scenario_clock}
@@ -20,18 +17,6 @@ use Rattle.host_return.specs.Probes.{idle_of}
 use Rattle.host_return.specs.Returned.{Becomes, GoesBack, ReturnsEnd, Sixteen, ReturnedParts, counts_in, IsReturned}
 use Rattle.host_return.specs.declared.follow.Course.{Course}
 use Rattle.host_return.specs.declared.returned.Return.{Return}
-
--- with no lines added a scenario stays as it is
-unchanged : (s : ScenarioParts) → IsScenario s → IsMerged s.script [] s.script
-unchanged s said = record { ascends = (in_order_said s said).script_ascends; of_frame = λ f. sym (append-nil (in_frame f s.script)) }
-
-pub same_scenario : (s t : ScenarioParts) → IsScenario s → IsWithScript s [] t → t ≡ s
-same_scenario s t said is = one_with_script s [] s.script t (unchanged s said) is
-
-pub copy_has_room : (s : ScenarioParts) → IsScenario s → ((t : ScenarioParts) → IsWithScript s [] t → HasRoom t → ⊥) → ⊥
-copy_has_room s said none =
-    let is = in_order_said s said in
-    none s (record { parts = refl; script = unchanged s said }) (record { lines = is.few_lines; boots = is.few_boots })
 
 -- at first there is no return
 pub nothing_yet : (read : ScenarioParts) (c : Course) → c.scenario ≡ read → c.returns.items ≡ [] → Lawful read (scenario_clock read) c.air

@@ -17,7 +17,7 @@ use crate::restart::with_return;
 use crate::{ListsIdle, Return, Returned, Runner};
 use air_log::{Air, Idle};
 use lwb_base::Memory;
-use scenario_text::{Scenario, with_script};
+use scenario_text::{Scenario, copy_of};
 use std::alloc::Global;
 
 /// Follows the returns of a scenario, at most 16: in each run it takes the least candidate by frame and then node, and runs the
@@ -97,9 +97,7 @@ impl Course {
     {
         let air = runner.run(alloc, read)?;
         let idle = finder.idle(alloc, runner, read, &air)?;
-        let Some(scenario) = with_script(alloc, read, &[])? else {
-            unreachable!();
-        };
+        let scenario = copy_of(alloc, read)?;
         Ok(Course {
             scenario,
             air,

@@ -1,9 +1,8 @@
 -- The masks of the links of a node on one side, less those that are lost and the nodes that are cut off, tell which links pass.
-use Rattle.std.proofs.Common.{◌≡◌, ℕ, ◌^◌, ◌<◌, ◌≤◌, List, [], Bool, true, false, not, ◌&&◌, ◌==◌, length, bit_and, w64, refl, sym, ◌∙◌, ap, arith}
+use Rattle.std.proofs.Common.{◌≡◌, ℕ, ◌-◌, min, List, [], Bool, true, false, not, ◌&&◌, ◌==◌, refl, sym, ◌∙◌, ap, arith}
 use Rattle.std.proofs.lemmas.Bool.Decides.{nat_tests}
-use Rattle.std.specs.Int.{bit_not}
+use Rattle.std.specs.Int.{bit_at}
 use Rattle.std.specs.List.{filter, list_any}
-use Rattle.lwb_base.specs.declared.limits.TheConstants.{MOST_NODES}
 use Rattle.link_trace.specs.declared.lines.LoseLine.{LoseLine}
 use Rattle.link_trace.specs.declared.lines.CutLine.{CutLine}
 use Rattle.link_trace.specs.declared.sides.Side.{Side}
@@ -12,7 +11,7 @@ use Rattle.link_trace.specs.Masks.{IsMask}
 use Rattle.link_trace.specs.Passes.{Lines, cuts_by, cut_off}
 use Rattle.link_trace.specs.Sealed.{Traced}
 use Rattle.link_trace.specs.Sides.{is_linked, is_lost, own_of, passes_on}
-use Rattle.link_trace.proofs.MaskBits.{empty_mask, same_tests, removed}
+use Rattle.link_trace.proofs.MaskBits.{empty_mask, same_tests, left_out}
 use Rattle.link_trace.proofs.Together.{one_of_these}
 
 swapped : (x c d : Bool) → (x && c && d) ≡ (x && d && c)
@@ -71,13 +70,13 @@ module _ (s : Traced) (f j k : ℕ) (side : Side) (a : ℕ) (a_is : IsMask (λ v
           ∙ tells_passing t f j k side v
 
   -- and what lines lose
-  module _ (few : length s.nodes ≤ MOST_NODES) (b : ℕ) (b_small : b < 2 ^ 64) (b_is : IsMask lost s.nodes b) where
-    kept : IsMask (λ v. linked v && not (lost v)) s.nodes (bit_and a (bit_not w64 b))
-    kept = removed s.nodes few linked lost a b b_small a_is b_is
+  module _ (b : ℕ) (b_is : IsMask lost s.nodes b) (d : ℕ) (d_bits : (i : ℕ) → bit_at d i ≡ min (bit_at a i) (1 - bit_at b i)) where
+    kept : IsMask (λ v. linked v && not (lost v)) s.nodes d
+    kept = left_out s.nodes linked lost a b d d_bits a_is b_is
 
     -- where no node is cut off
-    pub uncut_passing : s.lines.cuts ≡ [] → IsMask passing s.nodes (bit_and a (bit_not w64 b))
-    uncut_passing no_cuts = same_tests s.nodes (λ v. linked v && not (lost v)) passing (bit_and a (bit_not w64 b)) each kept
+    pub uncut_passing : s.lines.cuts ≡ [] → IsMask passing s.nodes d
+    uncut_passing no_cuts = same_tests s.nodes (λ v. linked v && not (lost v)) passing d each kept
       where
         left : (x : Bool) → x ≡ (x && not false && not false)
         left true = refl
@@ -91,11 +90,12 @@ module _ (s : Traced) (f j k : ℕ) (side : Side) (a : ℕ) (a_is : IsMask (λ v
 
     -- where the node is not cut off
     pub left_passing : (found : List CutLine) → found ≡ filter (cuts_by f j k) s.lines.cuts
-        → list_any (λ (l : CutLine). l.node == own_of side) found ≡ false → (c : ℕ) → c < 2 ^ 64
-        → IsMask (λ v. list_any (λ (l : CutLine). l.node == v) found) s.nodes c → IsMask passing s.nodes (bit_and (bit_and a (bit_not w64 b)) (bit_not w64 c))
-    left_passing found found_is none c c_small c_is =
-        same_tests s.nodes (λ v. linked v && not (lost v) && not (cut v)) passing (bit_and (bit_and a (bit_not w64 b)) (bit_not w64 c)) each
-        (removed s.nodes few (λ v. linked v && not (lost v)) cut (bit_and a (bit_not w64 b)) c c_small kept c_is)
+        → list_any (λ (l : CutLine). l.node == own_of side) found ≡ false → (c : ℕ)
+        → IsMask (λ v. list_any (λ (l : CutLine). l.node == v) found) s.nodes c
+        → (e : ℕ) → ((i : ℕ) → bit_at e i ≡ min (bit_at d i) (1 - bit_at c i)) → IsMask passing s.nodes e
+    left_passing found found_is none c c_is e e_bits =
+        same_tests s.nodes (λ v. linked v && not (lost v) && not (cut v)) passing e each
+        (left_out s.nodes (λ v. linked v && not (lost v)) cut d c e e_bits kept c_is)
       where
         cut : ℕ → Bool
         cut v = list_any (λ (l : CutLine). l.node == v) found

@@ -7,6 +7,10 @@ pub record Traced : Type 0 where
   pub lines : Lines
   pub nodes : List ℕ
 
+-- what links stand for: these lines, sealed with these nodes
+abbrev pub traced : Lines → List ℕ → Traced
+traced lines nodes = record { lines = lines; nodes = nodes }
+
 abbrev pub unsealed : Lines → Traced
 unsealed t = record { lines = t; nodes = [] }
 

@@ -1,10 +1,10 @@
 //! What a medium asks of a trace, as a trait.
 
 ghost use Rattle.std.specs.Prelude.{◌≡◌, ℕ, List, ◌<◌, length, slice_index};
-ghost use Rattle.link_trace.specs.Masks.{IsMask};
+ghost use Rattle.link_trace.specs.Masks.{IsMask, IsMaskAmong};
 ghost use Rattle.link_trace.specs.Passes.{Lines, passes, captured as captured_by};
 
-use crate::Trace;
+use crate::{NodeSet, Trace};
 use lwb_base::NodeId;
 
 /// What a medium asks of a trace: which links pass, and whom a node captures. The meanings are the lines, and the
@@ -27,6 +27,15 @@ pub trait Links {
         requires { from < length (nodes self.now) }
         ensures { IsMask (λ to. passes (lines self.now) frame slot step (slice_index (nodes self.now) from) to)
             (nodes self.now) result };
+
+    /// Those of the set to which a link from node `from` passes in that frame, slot and step.
+    fn to_mask_among(&self, frame: u32, slot: u8, step: u8, from: u8, among: NodeSet) -> NodeSet
+        requires { from < length (nodes self.now) }
+        ensures { IsMaskAmong (λ to. passes (lines self.now) frame slot step (slice_index (nodes self.now) from) to)
+            (nodes self.now) among result }
+    {
+        NodeSet::of_word(self.to_mask(frame, slot, step, from)).and(among)
+    }
 
     /// The sender that the capture line of that frame, slot and step at the node names. Returns `None` if and only if there is
     /// no such line.

@@ -12,15 +12,15 @@ ghost use Rattle.link_trace.specs.Masks.{IsMask, AreLinkMasks};
 use crate::in_order::has_link;
 use crate::sides::Side;
 use crate::starts::{Starts, of_slots, slot_number};
-use crate::{CutLine, LinkLine, LoseLine};
+use crate::{CutLine, LinkLine, LoseLine, NodeSet};
 use lwb_base::{Memory, NodeId};
 use std::alloc::Global;
 
-/// The links of one node, by masks of the nodes: which of them have a link to it, and to which of them it has one.
+/// The links of one node: which of them have a link to it, and to which of them it has one.
 #[derive(Clone, Copy)]
 pub struct LinkMasks {
-    pub to_it: u64,
-    pub from_it: u64,
+    pub to_it: NodeSet,
+    pub from_it: NodeSet,
 }
 
 /// A trace with another line is no longer sealed: it has no nodes, no masks and no starts.
@@ -63,7 +63,7 @@ pub fn lost_mask(
     step: u8,
     nodes: &[NodeId],
     side: &Side,
-) -> u64
+) -> NodeSet
     requires starts { AreStarts of_loss losses.now starts.now.losses.items }
     requires few { length nodes.now ≤ MOST_NODES }
     requires ascending { AllPairs (λ a b. a < b) nodes.now }
@@ -71,29 +71,36 @@ pub fn lost_mask(
 {
     let number = slot_number(frame, slot);
     let of_slot = of_slots(losses, &starts.losses, number, number);
-    let mut mask = 0;
+    let mut mask = NodeSet::EMPTY;
     for line in of_slot {
-        mask |= lost_by(line, frame, slot, step, nodes, side);
+        mask = mask.or(lost_by(line, frame, slot, step, nodes, side));
     }
     mask
 }
 
 /// Those of the nodes that one of the lines names.
-pub fn cut_mask(cuts: &[CutLine], nodes: &[NodeId]) -> u64
+pub fn cut_mask(cuts: &[CutLine], nodes: &[NodeId]) -> NodeSet
     requires few { length nodes.now ≤ MOST_NODES }
     requires ascending { AllPairs (λ a b. a < b) nodes.now }
     ensures { IsMask (λ node. list_any (λ l. l.node == node) cuts.now) nodes.now result }
 {
-    let mut mask = 0;
+    let mut mask = NodeSet::EMPTY;
     for line in cuts {
-        mask |= mask_of(nodes, line.node);
+        mask = mask.or(mask_of(nodes, line.node));
     }
     mask
 }
 
 // The node whose link on that side the line loses in that step, if it loses one.
 #[inline(always)]
-fn lost_by(line: &LoseLine, frame: u32, slot: u8, step: u8, nodes: &[NodeId], side: &Side) -> u64
+fn lost_by(
+    line: &LoseLine,
+    frame: u32,
+    slot: u8,
+    step: u8,
+    nodes: &[NodeId],
+    side: &Side,
+) -> NodeSet
     requires few { length nodes.now ≤ MOST_NODES }
     requires ascending { AllPairs (λ a b. a < b) nodes.now }
     ensures { IsMask (λ v. is_lost_by frame slot step side.now v line.now) nodes.now result }
@@ -110,7 +117,7 @@ fn lost_by(line: &LoseLine, frame: u32, slot: u8, step: u8, nodes: &[NodeId], si
             }
         }
     }
-    0
+    NodeSet::EMPTY
 }
 
 // Whether the line is of that frame, slot and step. Most lines of a slot are of other steps.
@@ -121,15 +128,15 @@ fn is_of(line: &LoseLine, frame: u32, slot: u8, step: u8) -> bool
 }
 
 // The nodes with which the node has a link on that side.
-fn links_of(links: &[LinkLine], nodes: &[NodeId], side: &Side) -> u64
+fn links_of(links: &[LinkLine], nodes: &[NodeId], side: &Side) -> NodeSet
     requires links { Ascends by_link links.now }
     requires few { length nodes.now ≤ MOST_NODES }
     ensures { IsMask (λ v. is_linked side.now links.now v) nodes.now result }
 {
-    let mut mask = 0u64;
+    let mut mask = NodeSet::EMPTY;
     for (i, other) in nodes.iter().enumerate() {
         if has_link_on(links, side, *other) {
-            mask |= 1 << i;
+            mask = mask.with(i as u8);
         }
     }
     mask
@@ -144,13 +151,13 @@ fn has_link_on(links: &[LinkLine], side: &Side, other: NodeId) -> bool
 }
 
 // The mask of the one node, if it is one of these.
-fn mask_of(nodes: &[NodeId], node: NodeId) -> u64
+fn mask_of(nodes: &[NodeId], node: NodeId) -> NodeSet
     requires few { length nodes.now ≤ MOST_NODES }
     requires ascending { AllPairs (λ a b. a < b) nodes.now }
     ensures { IsMask (λ id. node == id) nodes.now result }
 {
     match nodes.binary_search(&node) {
-        Ok(i) => 1 << i,
-        Err(_) => 0,
+        Ok(i) => NodeSet::EMPTY.with(i as u8),
+        Err(_) => NodeSet::EMPTY,
     }
 }

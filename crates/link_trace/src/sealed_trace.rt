@@ -9,7 +9,7 @@ use crate::masks::{cut_mask, link_masks, lost_mask};
 use crate::ranges::{are_none, cuts_so_far, has_no_cuts, names};
 use crate::sides::Side;
 use crate::starts::starts_of;
-use crate::trace::Trace;
+use crate::{NodeSet, Trace};
 use lwb_base::{Memory, NodeId};
 
 impl Trace {
@@ -44,6 +44,7 @@ impl Trace {
             self.masks[place].to_it,
             &Side::To(self.nodes[place]),
         )
+        .word()
     }
 
     /// The nodes to which a link from node `from` passes in that frame, slot and step, as `from_mask` gives nodes. It
@@ -61,13 +62,14 @@ impl Trace {
             self.masks[place].from_it,
             &Side::From(self.nodes[place]),
         )
+        .word()
     }
 
     // The nodes with which a link of that side passes in that frame, slot and step, where `links` are those with which there is
     // one. It is a part of both callers, each of which has one side.
     #[inline(always)]
     #[tactic(auto, using(crate::proofs::MasksOfPassing::all_passing, crate::proofs::MasksOfPassing::uncut_passing))]
-    fn passing(&self, frame: u32, slot: u8, step: u8, links: u64, side: &Side) -> u64
+    fn passing(&self, frame: u32, slot: u8, step: u8, links: NodeSet, side: &Side) -> NodeSet
         requires { IsMask (λ v. is_linked side.now self.now.lines.links v) self.now.nodes links }
         ensures { IsMask (λ v. passes_on self.now.lines frame slot step side.now v) self.now.nodes result }
     {
@@ -77,13 +79,13 @@ impl Trace {
         let nodes = self.nodes.as_slice();
         let lost = lost_mask(&self.losses, &self.starts, frame, slot, step, nodes, side);
         if has_no_cuts(&self.cuts) {
-            return links & !lost;
+            return links.except(lost);
         }
         let cuts = cuts_so_far(&self.cuts, &self.starts.cuts, frame, slot, step);
         if names(cuts, side.own()) {
-            return 0;
+            return NodeSet::EMPTY;
         }
         let cut = cut_mask(cuts, nodes);
-        links & !lost & !cut
+        links.except(lost).except(cut)
     }
 }

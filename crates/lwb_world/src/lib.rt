@@ -6,6 +6,6 @@ mod stated;
 mod world;
 
 pub use lwb_flood::{flood, flood_air};
-pub use stated::{clocks_of, stated_world, world_after};
+pub use stated::{clocks_of, stated_world, world_after, world_over};
 pub use world::World;
 pub use world_engine::RunParts;

@@ -12,22 +12,23 @@ ghost use Rattle.lwb_world.specs.Worlds.{HasRun, IsLeftByRun};
 use air_log::{Air, NodeCharge};
 use bus_rules::{Delivery, DropLine};
 use event_calendar::{Calendar, Orders};
+use link_trace::{Links, Trace};
 use lwb_base::{Memory, NodeId};
 use node_core::Node;
-use scenario_text::Scenario;
+use scenario_text::{Scenario, ScenarioOver};
 use std::alloc::Global;
 use std::marker::Model;
 use tick_clock::DriftClock;
 use world_engine::{Engine, RunParts};
 
-/// The nodes of a scenario over one radio medium in true time: a node core, a radio and a drifting clock each. Contracts
-/// see what the run has left, and the clocks by ascending ids of the nodes.
+/// The nodes of a scenario over one radio medium in true time: a node core, a radio and a drifting clock each. Its links are those
+/// of its trace, or others that take their place. Contracts see what the run has left, and the clocks by ascending ids of the nodes.
 #[derive(Drop)]
-pub struct World<'a, C: DriftClock> {
-    engine: Engine<'a, C>,
+pub struct World<'a, C: DriftClock, M: Links = Trace> {
+    engine: Engine<'a, C, M>,
 }
 
-impl<'a, C: DriftClock> Model for World<'a, C> {
+impl<'a, C: DriftClock, M: Links> Model for World<'a, C, M> {
     ghost use Rattle.std.specs.Prelude.{List};
     ghost use Rattle.world_engine.specs.Worlds.{WorldState};
 
@@ -42,6 +43,21 @@ impl<'a, C: DriftClock> World<'a, C> {
     pub fn new(alloc: Global, s: &'a Scenario, clocks: Vec<C>) -> Result<World<'a, C>, Memory>
         requires { length clocks.items ≡ length s.now.nodes }
         ensures { IfOk result (λ w. w ≡ (new_world s.now, clocks.items)) }
+    {
+        World::over(alloc, ScenarioOver::new(s, s.trace()), clocks)
+    }
+}
+
+impl<'a, C: DriftClock, M: Links> World<'a, C, M> {
+    /// The world of a scenario over links that take the place of its own trace, before its run, with one clock for each node by
+    /// ascending ids. With `Memory` the clocks are dropped.
+    pub fn over(
+        alloc: Global,
+        s: ScenarioOver<'a, M>,
+        clocks: Vec<C>,
+    ) -> Result<World<'a, C, M>, Memory>
+        requires { length clocks.items ≡ length s.nodes }
+        ensures { IfOk result (λ w. w ≡ (new_world s.entry, clocks.items)) }
     {
         Ok(World {
             engine: Engine::new(alloc, s, clocks)?,

@@ -3,3 +3,5 @@ mod NetworkTextExamples
 mod NetworkNodes
 mod LinksAsked
 mod NetworkTexts
+-- kept for the crates above
+pub mod SaidNetworks

@@ -6,9 +6,8 @@ use Rattle.text_readers.specs.Faults.{IsAsDefined, ◌>>=◌}
 use Rattle.text_readers.specs.declared.fault.FaultKind.{FaultKind}
 use Rattle.text_readers.specs.declared.fault.ParseFault.{ParseFault}
 use Rattle.text_readers.specs.declared.fault.ParseFault.TheVariants.{Line, Memory}
-use Rattle.scenario_text.specs.ScenarioGrammar.{long_scenario_of, scenario_of_lines}
+use Rattle.scenario_text.specs.ScenarioGrammar.{long_limits, long_scenario_of, scenario_of_lines}
 use Rattle.scenario_text.specs.ScenarioParts.{ScenarioParts}
-use Rattle.scenario_text.specs.declared.limits.TheConstants.{BUS_NODE_FRAMES}
 use Rattle.drawn_links.specs.declared.ratio_line.RatioLine.{RatioLine}
 use Rattle.network_text.specs.NetworkGrammar.{network_of, ratios_below, ratios_of, ratios_of_lines}
 
@@ -35,7 +34,7 @@ module _ (bytes above : List ℕ) (count : ℕ) (below : Option (List ℕ)) (div
   by_ratios s = ratios_below s number rest >>= with_ratios s
 
   whole : network_of bytes ≡ (long_scenario_of above >>= by_ratios)
-  whole = ap (λ (ls : List (List ℕ)). scenario_of_lines BUS_NODE_FRAMES ls >>= by_ratios) (sym divided.lines_above)
+  whole = ap (λ (ls : List (List ℕ)). scenario_of_lines long_limits ls >>= by_ratios) (sym divided.lines_above)
 
   pub scenario_fault : (e : ParseFault) → IsAsDefined {A = ScenarioParts} (Err e) (long_scenario_of above)
       → IsAsDefined {A = Network} (Err e) (network_of bytes)

@@ -13,10 +13,9 @@ use Rattle.text_readers.specs.declared.fault.FaultKind.TheVariants.{Range, Unkno
 use Rattle.text_readers.specs.declared.fault.ParseFault.{ParseFault}
 use Rattle.scenario_text.specs.FloodParts.{knows}
 use Rattle.scenario_text.specs.Network.{are_ends, has_link}
-use Rattle.scenario_text.specs.ScenarioGrammar.{scenario_of_lines}
+use Rattle.scenario_text.specs.ScenarioGrammar.{long_limits, scenario_of_lines}
 use Rattle.scenario_text.specs.ScenarioParts.{ScenarioParts}
 use Rattle.scenario_text.specs.ScriptGrammar.{first_word_is}
-use Rattle.scenario_text.specs.declared.limits.TheConstants.{BUS_NODE_FRAMES}
 use Rattle.drawn_links.specs.RatioTables.{Rated, last_frame}
 use Rattle.drawn_links.specs.declared.ratio_line.RatioLine.{RatioLine}
 use Rattle.network_text.specs.declared.limits.TheConstants.{GREATEST_RATIO, MOST_RATIO_LINES}
@@ -72,7 +71,7 @@ abbrev pub network_of : List ℕ → Result (ScenarioParts × List RatioLine) (�
 network_of bytes =
     let ls = lines bytes in
     let above = count_above (codes "ratios") ls in do
-      s ← scenario_of_lines BUS_NODE_FRAMES (take above ls)
+      s ← scenario_of_lines long_limits (take above ls)
       ratios ← ratios_below s above (drop above ls)
       Ok (s, ratios)
 

@@ -25,7 +25,7 @@ use Rattle.bus_rules.specs.Streams.{drops, stream_at}
 use Rattle.bus_terms.specs.Bus.{bus_deliveries, frames_of, ranks_of, state_at}
 use Rattle.bus_terms.specs.FloodOfText.{ids}
 use Rattle.bus_terms.specs.Fates.{all_latencies, is_latency, latency_of, latency_since, packet_delivered, put_of, queues, streams}
-use Rattle.bus_terms.specs.OverLines.{IsOverScenario, over}
+use Rattle.scenario_text.specs.OverLines.{IsOverScenario, over}
 use Rattle.bus_terms.specs.Packets.{bus_puts, put_at, put_by, queued_packet}
 use Rattle.bus_terms.specs.Rounds.{delivery_in_slot, round_deliveries, round_plan, slot_deliveries, slots_of}
 use Rattle.bus_terms.specs.declared.packets.Latency.{Latency}

@@ -18,7 +18,7 @@ use Rattle.bus_terms.specs.Bus.{bus_deliveries}
 use Rattle.bus_terms.specs.FloodOfText.{ids}
 use Rattle.bus_terms.specs.Fates.{all_latencies, bus_latencies, counted, counts_among, host_latencies, is_at_host, is_latency, latency_of, latency_since}
 use Rattle.bus_terms.specs.Fates.{packet_delivered, queues}
-use Rattle.bus_terms.specs.OverLines.{IsOverScenario, over}
+use Rattle.scenario_text.specs.OverLines.{IsOverScenario, over}
 use Rattle.bus_terms.specs.Packets.{bus_puts}
 use Rattle.bus_terms.specs.declared.packets.Latency.{Latency}
 use Rattle.bus_terms.specs.declared.packets.LatencyCount.{LatencyCount}

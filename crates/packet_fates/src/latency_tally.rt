@@ -6,7 +6,7 @@ ghost use Rattle.std.specs.Map.{count_at};
 ghost use Rattle.scenario_text.specs.ScenarioParts.{ScenarioParts};
 ghost use Rattle.bus_terms.specs.Bus.{bus_deliveries};
 ghost use Rattle.bus_terms.specs.Fates.{host_latency_counts as host_latency_counts_of, latency_counts as latency_counts_of};
-ghost use Rattle.bus_terms.specs.OverLines.{IsOverScenario};
+ghost use Rattle.scenario_text.specs.OverLines.{IsOverScenario};
 ghost use Rattle.bus_terms.specs.Packets.{bus_puts};
 ghost use Rattle.bus_terms.specs.declared.packets.Latency.{Latency as LatencyOf};
 ghost use Rattle.packet_fates.specs.Latencies.{IsTallyOf, count_of_entry, host_latency_by, latency_by, latency_cmp};

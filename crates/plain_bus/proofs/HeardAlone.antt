@@ -1,8 +1,8 @@
 -- What is received where one origin alone is sent, read off the masks.
 use Rattle.std.proofs.Common.{◌≡◌, ◌≢◌, ◌<◌, ℕ, Bool, true, false, ◌&&◌, not, ◌==◌, inl, inr, Option, Some, None, is_some, if◌then◌else◌, refl}
-use Rattle.std.proofs.Common.{length, get_or, sym, ◌∙◌, ap, arith}
+use Rattle.std.proofs.Common.{is_none, min, ◌-◌, nat_lt, length, get_or, sym, ◌∙◌, ap, arith}
 use Rattle.std.specs.Int.{bit_at}
-use Rattle.std.proofs.lemmas.Bool.{cases_Bool, cases_eq, eq-eqb, eqb-true, false≢true}
+use Rattle.std.proofs.lemmas.Bool.{and_parts, cases_Bool, cases_eq, eq-eqb, eqb-true, false≢true}
 use Rattle.std.proofs.lemmas.Nat.Bits.{bit_at-lt, bit_at-zero}
 use Rattle.link_trace.specs.Passes.{passes}
 use Rattle.link_trace.specs.Sealed.{Traced}
@@ -16,7 +16,8 @@ use Rattle.plain_bus.specs.declared.station.Station.{Station}
 use Rattle.plain_bus.specs.declared.station.Stations.{Stations}
 
 module _ (s : Setting) (m : Moment) (t : Traced) (f : Flood) (k : ℕ) (flood : IsMaskedFlood s t f) (known : SendsForInitiators s m) (xs : Stations)
-    (at : AreAt m t.nodes xs) (o : ℕ) (lone : IsLone s o) (reached : ℕ) (are : AreReached t f k xs.senders reached) (place : ℕ)
+    (at : AreAt m t.nodes xs) (o : ℕ) (lone : IsLone s o) (quiet reached : ℕ)
+    (quiet_are : (i : ℕ) → bit_at quiet i ≡ min (bit_at f.everyone i) (1 - bit_at xs.senders i)) (are : AreReached t f k xs.senders quiet reached) (place : ℕ)
     (below : place < length t.nodes) where
   abbrev v : ℕ
   v = get_or t.nodes place 0
@@ -25,15 +26,15 @@ module _ (s : Setting) (m : Moment) (t : Traced) (f : Flood) (k : ℕ) (flood : 
   of_sender j near = bit_tells t.nodes (λ u. is_some (m.sends u)) xs.senders j at.senders near
 
   -- outside the mask nothing reaches the node
-  offers_none : (bit_at reached place == 1) ≡ false → (u : ℕ) → offer s m k v u ≡ None
-  offers_none unset u = elim (inspect (m.sends u)) [
+  offers_none : bit_at quiet place ≡ 1 → (bit_at reached place == 1) ≡ false → (u : ℕ) → offer s m k v u ≡ None
+  offers_none asked unset u = elim (inspect (m.sends u)) [
     | inl is ↦ ap (λ (w : Option ℕ). if s.passes k u v then w else None) is ∙ by_link (s.passes k u v)
     | inr some ↦
         (let p = place_of t.nodes u (flood.here u (known.senders u some.0 some.1)) in
         let sends : bit_at xs.senders p.0 ≡ 1 = eqb-true (bit_at xs.senders p.0) 1 (of_sender p.0 p.1
         ∙ ap (λ (w : ℕ). is_some (m.sends w)) p.2 ∙ ap (λ (w : Option ℕ). is_some w) some.1) in
         let passing : s.passes k u v ≡ false = flood.links k u v ∙ ap (λ (w : ℕ). passes t.lines f.frame f.slot k w v) (sym p.2)
-        ∙ are.none place p.0 below zero_bit p.1 sends in
+        ∙ are.none place p.0 below asked zero_bit p.1 sends in
         ap (λ (b : Bool). if b then m.sends u else None) passing)
   ]
     where
@@ -62,6 +63,21 @@ module _ (s : Setting) (m : Moment) (t : Traced) (f : Flood) (k : ℕ) (flood : 
       ap (λ (b : Bool). if b then m.sends u else None) (flood.links k u v ∙ from.3) ∙ sent.1 ∙ ap (λ (n : ℕ). Some n) origin in
       only_picked s m k v known u o given (alone s m k v known o o lone u given)
 
+  -- who may receive takes part and does not send
+  is_quiet : (x : Station) → x ≡ station_at m v → may_hear_at f x place ≡ true → bit_at quiet place ≡ 1
+  is_quiet x is may =
+      let parts = and_parts ((bit_at f.everyone place == 1) && is_none x.sends) (nat_lt x.times f.limit) may in
+      let both = and_parts (bit_at f.everyone place == 1) (is_none x.sends) parts.0 in
+      let silent : is_some (m.sends v) ≡ false = ap (λ (y : Station). is_some y.sends) (sym is) ∙ none_there x.sends both.1 in
+      let unset : (bit_at xs.senders place == 1) ≡ false = of_sender place below ∙ silent in
+      let here : bit_at f.everyone place ≡ 1 = eqb-true (bit_at f.everyone place) 1 both.0 in
+      let not_one : bit_at xs.senders place ≢ 1 = λ one. false≢true (sym unset ∙ eq-eqb (bit_at xs.senders place) 1 one) in
+      omega (arith, quiet_are place, here, bit_at-lt xs.senders place, not_one)
+    where
+      none_there : (w : Option ℕ) → is_none w ≡ true → is_some w ≡ false
+      none_there None is = refl
+      none_there (Some p) is = absurd (false≢true is)
+
   -- a node receives by the masks what it should
   pub heard_alone_is : (x : Station) → x ≡ station_at m v → heard_alone f reached place o x ≡ hears s m k v
   heard_alone_is x is = elim (cases_Bool (bit_at reached place == 1)) [
@@ -75,7 +91,10 @@ module _ (s : Setting) (m : Moment) (t : Traced) (f : Flood) (k : ℕ) (flood : 
       | inr not ↦ by_may not ∙ sym (deaf s m t f k flood known place below x is not)
     ]
     | inr unset ↦ ap (λ (b : Bool). if b && may_hear_at f x place && takes_at f x place o then Some o else None) unset
-        ∙ sym (unreached s m t f k flood known place below (nothing_picked s m k v known (offers_none unset)))
+        ∙ sym (elim (cases_Bool (may_hear_at f x place)) [
+          | inl may ↦ unreached s m t f k flood known place below (nothing_picked s m k v known (offers_none (is_quiet x is may) unset))
+          | inr not ↦ deaf s m t f k flood known place below x is not
+        ])
   ]
     where
       by_tests : (a b c : Bool) → (bit_at reached place == 1) ≡ a → may_hear_at f x place ≡ b → takes_at f x place o ≡ c

@@ -9,7 +9,7 @@ use Rattle.scenario_text.specs.declared.lines.NodeLine.{NodeLine}
 use Rattle.bus_rules.specs.Slots.{part_of}
 use Rattle.bus_rules.specs.States.{State}
 use Rattle.bus_terms.specs.FloodOfText.{ids}
-use Rattle.bus_terms.specs.OverLines.{IsOverScenario}
+use Rattle.scenario_text.specs.OverLines.{IsOverScenario}
 use Rattle.bus_terms.specs.Flooding.{Setting, moment, has, STEPS}
 use Rattle.bus_terms.specs.Rounds.{message_said, slot_at, opened_at, before_slot}
 use Rattle.bus_terms.proofs.ReceivedByPaths.{in_whole}

@@ -1,21 +1,20 @@
 -- The stations from step to step of a flood.
-use Rattle.std.proofs.Common.{◌≡◌, ◌<◌, ◌≤◌, ℕ, All, ◌+◌, ◌*◌, ◌^◌, ◌%◌, suc, zero, List, [], ◌∷◌, ◌++◌, Bool, true, false, ◌&&◌, inl, inr, Option, Some, None}
-use Rattle.std.proofs.Common.{is_some, nat_lt, refl, sym, ◌∙◌, ap, subst, length, map, take, get_or, ◌==◌, if◌then◌else◌, bit_or, arith, add-one, add-zero}
+use Rattle.std.proofs.Common.{◌≡◌, ◌≢◌, ◌<◌, ◌≤◌, ℕ, All, ◌+◌, suc, zero, List, [], ◌∷◌, ◌++◌, Bool, true, false, ◌&&◌, inl, inr, Option, Some, None}
+use Rattle.std.proofs.Common.{is_some, nat_lt, refl, sym, ◌∙◌, ap, subst, length, map, take, get_or, ◌==◌, if◌then◌else◌, arith, add-one, add-zero}
 use Rattle.std.specs.Int.{bit_at}
 use Rattle.std.specs.Option.{option_and_then}
-use Rattle.std.proofs.lemmas.Bool.{false≢true, and_parts}
+use Rattle.std.proofs.lemmas.Bool.{cases_eq, false≢true, and_parts}
 use Rattle.std.proofs.lemmas.Bool.Decides.{nat_tests}
 use Rattle.std.proofs.lemmas.List.{get_or-map, length-map, take_more}
 use Rattle.std.proofs.lemmas.Nat.Bits.{bit_at-zero}
 use Rattle.std.proofs.lemmas.Option.{same_Some}
-use Rattle.lwb_base.specs.declared.limits.TheConstants.{MOST_NODES}
 use Rattle.link_trace.specs.Masks.{IsMaskUpto}
 use Rattle.link_trace.specs.Sealed.{Traced}
-use Rattle.link_trace.proofs.MaskBits.{one_set, one_unset, same_tests}
+use Rattle.link_trace.proofs.MaskBits.{one_with, one_without, same_tests}
 use Rattle.bus_terms.specs.Flooding.{Setting, Moment, STEPS, has, offer, pick, may_hear, takes, hears, first_heard, next, beginning, moment}
 use Rattle.bus_terms.proofs.HeardOrigins.{heard_of}
 use Rattle.bus_terms.proofs.Options.{inspect, sends_parts, heard_parts}
-use Rattle.plain_bus.specs.FloodMasks.{IsMaskedFlood, SendsForInitiators, AreAt, station_at, station_after, station_first, with_sender}
+use Rattle.plain_bus.specs.FloodMasks.{IsMaskedFlood, SendsForInitiators, AreAt, station_at, station_after, station_first, AddsSender}
 use Rattle.plain_bus.proofs.HeardByMasks.{bit_tells, place_of}
 use Rattle.plain_bus.proofs.Picks.{nothing_picked}
 use Rattle.plain_bus.specs.declared.station.Flood.{Flood}
@@ -75,14 +74,34 @@ one_more_station f nodes i x old new below is at adds =
     ∙ ap (λ (y : Station). take i (map f nodes) ++ y ∷ []) (at ∙ sym (get_or-map f nodes i 0 x below))
     ∙ sym (take_more (map f nodes) i x (omega (arith, below, length-map nodes f)))
 
-pub one_more_sender : (test : ℕ → Bool) (nodes : List ℕ) (i : ℕ) (x : Station) (mask : ℕ) → length nodes ≤ MOST_NODES → i < length nodes
-    → IsMaskUpto test nodes i mask → is_some x.sends ≡ test (get_or nodes i 0)
-    → IsMaskUpto test nodes (i + 1) (with_sender mask i x)
-one_more_sender test nodes i x mask few below is at = by_sends (is_some x.sends) refl
+-- a mask with one sender more, and the same one
+pub added : (mask place : ℕ) (x : Station) (new : ℕ) → is_some x.sends ≡ true → bit_at new place ≡ 1
+    → ((i : ℕ) → i ≢ place → bit_at new i ≡ bit_at mask i) → AddsSender mask place x new
+added mask place x new sends set others = record {
+  own = set ∙ ap (λ (b : Bool). if b then 1 else bit_at mask place) (sym sends);
+  others = others;
+}
+
+pub not_added : (mask place : ℕ) (x : Station) → is_some x.sends ≡ false → AddsSender mask place x mask
+not_added mask place x rests = record {
+  own = ap (λ (b : Bool). if b then 1 else bit_at mask place) (sym rests);
+  others = λ i other. refl;
+}
+
+pub one_more_sender : (test : ℕ → Bool) (nodes : List ℕ) (i : ℕ) (x : Station) (mask new : ℕ) → AddsSender mask i x new
+    → IsMaskUpto test nodes i mask → is_some x.sends ≡ test (get_or nodes i 0) → IsMaskUpto test nodes (i + 1) new
+one_more_sender test nodes i x mask new adds is at = by_sends (is_some x.sends) refl
   where
-    by_sends : (b : Bool) → is_some x.sends ≡ b → IsMaskUpto test nodes (i + 1) (if b then bit_or mask (1 * 2 ^ i % 2 ^ 64) else mask)
-    by_sends true sends = one_set nodes few test i mask below is (sym at ∙ sends)
-    by_sends false sends = one_unset nodes few test i mask below is (sym at ∙ sends)
+    by_sends : (b : Bool) → is_some x.sends ≡ b → IsMaskUpto test nodes (i + 1) new
+    by_sends true sends =
+        one_with nodes test i mask is new (adds.own ∙ ap (λ (b : Bool). if b then 1 else bit_at mask i) sends) adds.others (sym at ∙ sends)
+    by_sends false sends =
+        λ k.
+        elim (cases_eq k i) [
+          | inl same ↦ ap (bit_at new) same ∙ adds.own ∙ ap (λ (b : Bool). if b then 1 else bit_at mask i) sends ∙ sym (ap (bit_at mask) same)
+          | inr other ↦ adds.others k other
+        ]
+        ∙ one_without nodes test i mask is (sym at ∙ sends) k
 
 pub no_station : (test : ℕ → Bool) (nodes : List ℕ) → IsMaskUpto test nodes 0 0
 no_station test nodes i = bit_at-zero i ∙ sym (nothing i)

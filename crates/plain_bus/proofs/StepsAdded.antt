@@ -8,6 +8,7 @@ use Rattle.std.proofs.lemmas.Bool.{cases_eq}
 use Rattle.std.proofs.lemmas.List.FromFn.{length-range_with_len}
 use Rattle.std.proofs.lemmas.Nat.Bits.{bit_at-zero}
 use Rattle.std.proofs.lemmas.Option.{same_Some}
+use Rattle.lwb_base.specs.declared.limits.TheConstants.{MOST_NODES}
 use Rattle.lwb_base.proofs.Lists.{length_filtered}
 use Rattle.std.proofs.lemmas.List.{get_or-set_same, get_or-set_other, get_or_default}
 use Rattle.plain_bus.specs.SentSteps.{AreStepsOf, counted, with_step}
@@ -22,7 +23,7 @@ stepped k sends left x = if sends && not left then with_step k x else x
 -- so many of the mask are done
 abbrev pub AreStepped : ℕ → ℕ → ℕ → List Steps → List Steps → Type 0
 AreStepped k mask rest olds now =
-    (i : ℕ) (d : Steps) → i < 64 → get_or now i d ≡ stepped k (bit_at mask i == 1) (bit_at rest i == 1) (get_or olds i d)
+    (i : ℕ) (d : Steps) → i < MOST_NODES → get_or now i d ≡ stepped k (bit_at mask i == 1) (bit_at rest i == 1) (get_or olds i d)
 
 one_is : (a : ℕ) → a ≡ 1 → (a == 1) ≡ true
 one_is a is = ap (λ (n : ℕ). n == 1) is
@@ -35,7 +36,8 @@ none_left k false x = refl
 pub none_stepped : (k mask : ℕ) (olds : List Steps) → AreStepped k mask mask olds olds
 none_stepped k mask olds i d below = sym (none_left k (bit_at mask i == 1) (get_or olds i d))
 
-module _ (k mask rest next place : ℕ) (olds now : List Steps) (old_size : length olds ≡ 64) (size : length now ≡ 64) (below : place < 64)
+module _ (k mask rest next place : ℕ) (olds now : List Steps)
+    (old_size : length olds ≡ MOST_NODES) (size : length now ≡ MOST_NODES) (below : place < MOST_NODES)
     (of_mask : bit_at mask place ≡ 1) (of_rest : bit_at rest place ≡ 1) (cleared : bit_at next place ≡ 0)
     (others : (i : ℕ) → i ≢ place → bit_at next i ≡ bit_at rest i) (are : AreStepped k mask rest olds now) where
   -- one that is left is as it was
@@ -65,7 +67,7 @@ none_left_of k true x = refl
 none_left_of k false x = refl
 
 -- all are done where none is left
-pub all_stepped : (k mask rest : ℕ) (olds now : List Steps) → rest ≡ 0 → AreStepped k mask rest olds now → (i : ℕ) (d : Steps) → i < 64
+pub all_stepped : (k mask rest : ℕ) (olds now : List Steps) → rest ≡ 0 → AreStepped k mask rest olds now → (i : ℕ) (d : Steps) → i < MOST_NODES
     → get_or now i d ≡ (if bit_at mask i == 1 then with_step k (get_or olds i d) else get_or olds i d)
 all_stepped k mask rest olds now over are i d below =
     are i d below
@@ -87,26 +89,26 @@ module _ (masks : List ℕ) (n : ℕ) (olds now : List Steps) (before : AreSteps
 
   -- with the mask of the next step
   module _ (mask : ℕ) (is : mask ≡ get_or masks n 0)
-      (made : (i : ℕ) (d : Steps) → i < 64 → get_or now i d ≡ (if bit_at mask i == 1 then with_step n (get_or olds i d) else get_or olds i d)) where
-    now_is : (i : ℕ) (d : Steps) (b : Bool) → i < 64 → (bit_at (get_or masks n 0) i == 1) ≡ b
+      (made : (i : ℕ) (d : Steps) → i < MOST_NODES → get_or now i d ≡ (if bit_at mask i == 1 then with_step n (get_or olds i d) else get_or olds i d)) where
+    now_is : (i : ℕ) (d : Steps) (b : Bool) → i < MOST_NODES → (bit_at (get_or masks n 0) i == 1) ≡ b
         → get_or now i d ≡ (if b then with_step n (get_or olds i d) else get_or olds i d)
     now_is i d b below bit =
         made i d below ∙ ap (λ (m : ℕ). if bit_at m i == 1 then with_step n (get_or olds i d) else get_or olds i d) is
         ∙ ap (λ (s : Bool). if s then with_step n (get_or olds i d) else get_or olds i d) bit
 
-    each_more : (i : ℕ) (d : Steps) (b : Bool) → i < 64 → (bit_at (get_or masks n 0) i == 1) ≡ b → get_or now i d ≡ counted (steps_at masks i (n + 1))
+    each_more : (i : ℕ) (d : Steps) (b : Bool) → i < MOST_NODES → (bit_at (get_or masks n 0) i == 1) ≡ b → get_or now i d ≡ counted (steps_at masks i (n + 1))
     each_more i d true below sends =
         now_is i d true below sends ∙ ap (with_step n) (before.each i d below) ∙ sym (counted_more (steps_at masks i n) n)
         ∙ ap counted (sym (one_step_more masks i n sends))
     each_more i d false below rests = now_is i d false below rests ∙ before.each i d below ∙ ap counted (sym (no_step_more masks i n rests))
 
-    early_more : (i : ℕ) (d : Steps) (k : ℕ) (b : Bool) → i < 64 → (bit_at (get_or masks n 0) i == 1) ≡ b → (get_or now i d).last ≡ Some k → k < n + 1
+    early_more : (i : ℕ) (d : Steps) (k : ℕ) (b : Bool) → i < MOST_NODES → (bit_at (get_or masks n 0) i == 1) ≡ b → (get_or now i d).last ≡ Some k → k < n + 1
     early_more i d k true below sends last =
         let same = same_Some n k (sym (ap (λ (x : Steps). x.last) (now_is i d true below sends)) ∙ last) in omega (arith, same)
     early_more i d k false below rests last =
         let old = before.early i d k below (sym (ap (λ (x : Steps). x.last) (now_is i d false below rests)) ∙ last) in omega (arith, old)
 
-    pub steps_more : length now ≡ 64 → AreStepsOf masks (n + 1) now
+    pub steps_more : length now ≡ MOST_NODES → AreStepsOf masks (n + 1) now
     steps_more size = record {
       size = size;
       each = λ i d below. each_more i d (bit_at (get_or masks n 0) i == 1) below refl;
@@ -114,8 +116,8 @@ module _ (masks : List ℕ) (n : ℕ) (olds now : List Steps) (before : AreSteps
     }
 
 -- at first nobody sent
-pub none_counted : (masks : List ℕ) (xs : List Steps) → length xs ≡ 64
-    → ((i : ℕ) (d : Steps) → i < 64 → get_or xs i d ≡ record { count = 0; last = None }) → AreStepsOf masks 0 xs
+pub none_counted : (masks : List ℕ) (xs : List Steps) → length xs ≡ MOST_NODES
+    → ((i : ℕ) (d : Steps) → i < MOST_NODES → get_or xs i d ≡ record { count = 0; last = None }) → AreStepsOf masks 0 xs
 none_counted masks xs size none = record {
   size = size;
   each = λ i d below. none i d below;

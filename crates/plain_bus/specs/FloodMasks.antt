@@ -1,19 +1,16 @@
 -- A flood by masks of the nodes that a trace is sealed with.
-use Rattle.std.specs.Prelude.{◌≡◌, ◌<◌, ◌==◌, ℕ, ◌+◌, ◌*◌, ◌^◌, ◌%◌, bit_or, List, Bool, true, false, is_some, is_none, not, ◌&&◌, ◌||◌, nat_lt, Some, None}
+use Rattle.std.specs.Prelude.{◌≡◌, ◌≢◌, ◌<◌, ◌==◌, ℕ, ◌+◌, List, Bool, true, false, is_some, is_none, not, ◌&&◌, ◌||◌, nat_lt, Some, None}
 use Rattle.std.specs.Prelude.{if◌then◌else◌, length, map, slice_index, slice_index_or, option_map}
 use Rattle.std.specs.declared.option.Option.{Option}
 use Rattle.std.specs.Int.{bit_at}
 use Rattle.link_trace.specs.Masks.{IsMask}
 use Rattle.link_trace.specs.Passes.{Lines, passes, captured}
+pub use Rattle.link_trace.specs.Sealed.{traced}
 use Rattle.link_trace.specs.Sealed.{Traced}
 use Rattle.bus_terms.specs.Flooding.{Setting, Moment, moment, STEPS, has, agrees, first_heard}
 use Rattle.plain_bus.specs.declared.station.Flood.{Flood}
 use Rattle.plain_bus.specs.declared.station.Station.{Station}
 use Rattle.plain_bus.specs.declared.station.Stations.{Stations}
-
--- the trace that links stand for: these lines, sealed with these nodes
-abbrev pub traced : Lines → List ℕ → Traced
-traced lines nodes = record { lines = lines; nodes = nodes }
 
 -- the flood is this one, among the nodes of the seal
 pub record IsMaskedFlood (s : Setting) (t : Traced) (f : Flood) : Type 0 where
@@ -85,11 +82,11 @@ may_hear_at f x place = (bit_at f.everyone place == 1) && is_none x.sends && nat
 abbrev pub takes_at : Flood → Station → ℕ → ℕ → Bool
 takes_at f x place o = (not (bit_at f.initiators place == 1) || (x.node == o)) && agrees x.heard o
 
--- the mask has just the nodes that one of the senders' mask reaches in step k
-pub record AreReached (t : Traced) (f : Flood) (k senders mask : ℕ) : Type 0 where
+-- the mask has just those of `among` that one of the senders' mask reaches in step k, and perhaps other nodes that one reaches
+pub record AreReached (t : Traced) (f : Flood) (k senders among mask : ℕ) : Type 0 where
   pub some : (i : ℕ) → bit_at mask i ≡ 1
       → (j : ℕ) × (j < length t.nodes) × (bit_at senders j ≡ 1) × (passes t.lines f.frame f.slot k (slice_index t.nodes j) (slice_index t.nodes i) ≡ true)
-  pub none : (i j : ℕ) → i < length t.nodes → bit_at mask i ≡ 0 → j < length t.nodes → bit_at senders j ≡ 1
+  pub none : (i j : ℕ) → i < length t.nodes → bit_at among i ≡ 1 → bit_at mask i ≡ 0 → j < length t.nodes → bit_at senders j ≡ 1
       → passes t.lines f.frame f.slot k (slice_index t.nodes j) (slice_index t.nodes i) ≡ false
 
 -- no other initiates
@@ -100,9 +97,10 @@ IsLone s o = (v : ℕ) → has s.initiators v ≡ true → v ≡ o
 abbrev pub heard_alone : Flood → ℕ → ℕ → ℕ → Station → Option ℕ
 heard_alone f mask place o x = if (bit_at mask place == 1) && may_hear_at f x place && takes_at f x place o then Some o else None
 
--- the mask of the senders with the node at this place
-abbrev pub with_sender : ℕ → ℕ → Station → ℕ
-with_sender mask place x = if is_some x.sends then bit_or mask (1 * 2 ^ place % 2 ^ 64) else mask
+-- the new mask has the senders of the old one, and the node at this place if it sends
+pub record AddsSender (mask place : ℕ) (x : Station) (new : ℕ) : Type 0 where
+  pub own : bit_at new place ≡ (if is_some x.sends then 1 else bit_at mask place)
+  pub others : (i : ℕ) → i ≢ place → bit_at new i ≡ bit_at mask i
 
 -- a node at the beginning of a flood
 abbrev pub station_first : Flood → ℕ → ℕ → Station

@@ -11,6 +11,7 @@ ghost use Rattle.plain_bus.specs.FloodMasks.{IsMaskedFlood, accepted_from};
 use crate::station::{Flood, Station};
 use crate::stepping::flooded;
 use bus_rules::FloodResult;
+use link_trace::NodeSet;
 use lwb_base::{Memory, NodeId};
 use scenario_text::{FloodText, NodeLine};
 use std::alloc::Global;
@@ -42,27 +43,27 @@ fn flood_of(f: &FloodText) -> Flood
 }
 
 // The nodes of this id.
-fn mask_of(nodes: &[NodeLine], node: NodeId) -> u64
+fn mask_of(nodes: &[NodeLine], node: NodeId) -> NodeSet
     requires { length nodes.now ≤ MOST_NODES }
     ensures { IsMask (λ v. v == node) (ids nodes.now) result }
 {
-    let mut mask = 0;
+    let mut mask = NodeSet::EMPTY;
     for (i, line) in nodes.iter().enumerate() {
         if line.node == node {
-            mask |= 1u64 << i;
+            mask = mask.with(i as u8);
         }
     }
     mask
 }
 
 // All nodes.
-fn mask_of_all(nodes: &[NodeLine]) -> u64
+fn mask_of_all(nodes: &[NodeLine]) -> NodeSet
     requires { length nodes.now ≤ MOST_NODES }
     ensures { IsMask (λ v. true) (ids nodes.now) result }
 {
-    let mut mask = 0;
+    let mut mask = NodeSet::EMPTY;
     for i in 0..nodes.len() {
-        mask |= 1u64 << i;
+        mask = mask.with(i as u8);
     }
     mask
 }

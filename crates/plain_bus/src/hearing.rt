@@ -7,8 +7,7 @@ ghost use Rattle.plain_bus.specs.FloodMasks.{AreAt, IsMaskedFlood, SendsForIniti
 
 use crate::offers::picked;
 use crate::station::{Flood, Station, Stations};
-use link_trace::Links;
-use link_trace::bits::has_bit;
+use link_trace::{Links, NodeSet};
 use lwb_base::NodeId;
 
 /// The initiator whose message the node at this place receives in the step, if it receives one.
@@ -31,7 +30,7 @@ pub fn hears<M: Links>(
         return None;
     }
     let reaching = links.from_mask(flood.frame, flood.slot, step, place);
-    let from = reaching & now.senders;
+    let from = NodeSet::of_word(reaching).and(now.senders);
     let Some(origin) = picked(links, flood, now.each.as_slice(), step, station.node, from) else {
         return None;
     };
@@ -42,18 +41,18 @@ pub fn hears<M: Links>(
     }
 }
 
-/// The same where this origin alone is sent, and reaches the nodes of the mask.
+/// The same where this origin alone is sent, and reaches these nodes.
 pub(crate) fn hears_alone(
     flood: &Flood,
     station: &Station,
     place: u8,
-    reached: u64,
+    reached: NodeSet,
     origin: NodeId,
 ) -> Option<NodeId>
-    requires { place < 64 }
+    requires { place < MOST_NODES }
     ensures { result ≡ heard_alone flood.now reached place origin station.now }
 {
-    if has_bit(reached, place)
+    if reached.has(place)
         && may_hear(flood, station, place)
         && takes(flood, station, place, origin)
     {
@@ -65,18 +64,18 @@ pub(crate) fn hears_alone(
 
 // It takes part, does not send, and may send again.
 fn may_hear(flood: &Flood, station: &Station, place: u8) -> bool
-    requires { place < 64 }
+    requires { place < MOST_NODES }
     ensures { result ≡ may_hear_at flood.now station.now place }
 {
-    has_bit(flood.everyone, place) && station.sends.is_none() && station.times < flood.limit
+    flood.everyone.has(place) && station.sends.is_none() && station.times < flood.limit
 }
 
 // It is no other initiator, and has received no other.
 fn takes(flood: &Flood, station: &Station, place: u8, origin: NodeId) -> bool
-    requires { place < 64 }
+    requires { place < MOST_NODES }
     ensures { result ≡ takes_at flood.now station.now place origin }
 {
-    (!has_bit(flood.initiators, place) || station.node == origin) && agrees(station, origin)
+    (!flood.initiators.has(place) || station.node == origin) && agrees(station, origin)
 }
 
 // It has received nothing before, or the same.

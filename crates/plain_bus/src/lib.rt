@@ -1,4 +1,4 @@
-//! The bus run by code: floods by masks of 64 nodes over sealed links, nodes that are off or on, and how a slot opens and
+//! The bus run by code: floods by sets of nodes over sealed links, nodes that are off or on, and how a slot opens and
 //! closes at all of them.
 #![tactic(auto)]
 
@@ -14,7 +14,6 @@ mod offers;
 mod places;
 mod reaching;
 mod round_slot;
-mod scenario_over;
 mod sent;
 mod sent_steps;
 mod slot_flood;
@@ -34,7 +33,6 @@ pub use network::Network;
 pub use node::BusNode;
 pub use places::place_of;
 pub use round_slot::{RoundSlot, Setting};
-pub use scenario_over::ScenarioOver;
 pub use slot_flood::{flood_in, open_slot};
 pub use slot_windows::open_all;
 pub use station::{Flood, Station, Stations};

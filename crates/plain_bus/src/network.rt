@@ -19,7 +19,6 @@ use crate::closing::close_all;
 use crate::cost::Cost;
 use crate::node::BusNode;
 use crate::round_slot::{RoundSlot, Setting};
-use crate::scenario_over::ScenarioOver;
 use crate::sent::add_sent;
 use crate::slot_flood::open_slot;
 use crate::station::Flood;
@@ -29,7 +28,7 @@ use bus_rules::{Delivery, Part};
 use bus_terms::SentPacket;
 use link_trace::Links;
 use lwb_base::{Memory, NodeId, Rank};
-use scenario_text::Scenario;
+use scenario_text::{Scenario, ScenarioOver};
 use std::alloc::Global;
 use std::marker::Model;
 

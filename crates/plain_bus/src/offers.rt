@@ -8,25 +8,24 @@ ghost use Rattle.bus_terms.specs.Flooding.{Setting, Moment, offer, pick};
 ghost use Rattle.plain_bus.specs.FloodMasks.{AreOffers, IsOffer, AllOffer, IsMaskedFlood, SendsForInitiators, traced};
 
 use crate::station::{Flood, Station};
-use link_trace::Links;
-use link_trace::bits::{lowest, without_bit};
+use link_trace::{Links, NodeSet};
 use lwb_base::NodeId;
 
-// One of the origins that the nodes of the mask send; None where they send nothing.
-fn first_sent(stations: &[Station], from: u64) -> Option<NodeId>
+// One of the origins that the nodes of the set send; None where they send nothing.
+fn first_sent(stations: &[Station], from: NodeSet) -> Option<NodeId>
     requires few { length stations.now ≤ MOST_NODES }
     ensures { (give : ℕ → Option ℕ) → AreOffers give stations.now from → IsOffer give result }
 {
     let mut rest = from;
-    while rest != 0 {
-        let place = lowest(rest);
+    while !rest.is_empty() {
+        let place = rest.lowest();
         let Some(station) = stations.get(usize::from(place)) else {
             return None;
         };
         if station.sends.is_some() {
             return station.sends;
         }
-        rest = without_bit(rest, place);
+        rest = rest.without(place);
     }
     None
 }
@@ -41,45 +40,45 @@ fn differs(sends: Option<NodeId>, origin: NodeId) -> bool
     }
 }
 
-// Whether the nodes of the mask send this origin and no other.
-fn all_send(stations: &[Station], from: u64, origin: NodeId) -> bool
+// Whether the nodes of the set send this origin and no other.
+fn all_send(stations: &[Station], from: NodeSet, origin: NodeId) -> bool
     requires few { length stations.now ≤ MOST_NODES }
     ensures { (give : ℕ → Option ℕ) → AreOffers give stations.now from → AllOffer give origin result }
 {
     let mut rest = from;
-    while rest != 0 {
-        let place = lowest(rest);
+    while !rest.is_empty() {
+        let place = rest.lowest();
         let Some(station) = stations.get(usize::from(place)) else {
             return true;
         };
         if differs(station.sends, origin) {
             return false;
         }
-        rest = without_bit(rest, place);
+        rest = rest.without(place);
     }
     true
 }
 
-// What the node sends, if it is one of the mask.
-fn sent_by(stations: &[Station], from: u64, node: NodeId) -> Option<NodeId>
+// What the node sends, if it is one of the set.
+fn sent_by(stations: &[Station], from: NodeSet, node: NodeId) -> Option<NodeId>
     requires few { length stations.now ≤ MOST_NODES }
     ensures { (give : ℕ → Option ℕ) → AreOffers give stations.now from → result ≡ give node }
 {
     let mut rest = from;
-    while rest != 0 {
-        let place = lowest(rest);
+    while !rest.is_empty() {
+        let place = rest.lowest();
         let Some(station) = stations.get(usize::from(place)) else {
             return None;
         };
         if station.node == node {
             return station.sends;
         }
-        rest = without_bit(rest, place);
+        rest = rest.without(place);
     }
     None
 }
 
-/// The origin that reaches the node where the nodes of the mask send to it in that step: the only one, or else the one
+/// The origin that reaches the node where the nodes of the set send to it in that step: the only one, or else the one
 /// of the node that the links name.
 pub(crate) fn picked<M: Links>(
     links: &M,
@@ -87,7 +86,7 @@ pub(crate) fn picked<M: Links>(
     stations: &[Station],
     step: u8,
     at: NodeId,
-    from: u64,
+    from: NodeSet,
 ) -> Option<NodeId>
     requires few { length stations.now ≤ MOST_NODES }
     ensures { (s : Setting) (m : Moment) → IsMaskedFlood s (traced (M.lines links.now) (M.nodes links.now)) flood.now → SendsForInitiators s m

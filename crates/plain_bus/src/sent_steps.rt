@@ -1,4 +1,4 @@
-//! In which steps of a flood each node sent, by the masks of who sent in each.
+//! In which steps of a flood each node sent, by those who sent in each.
 
 ghost use Rattle.std.specs.Prelude.{◌≡◌, ◌≤◌, ◌<◌, ◌+◌, ◌==◌, ℕ, All, length, slice_index_or, if◌then◌else◌};
 ghost use Rattle.lwb_base.specs.declared.limits.TheConstants.{MOST_NODES};
@@ -7,11 +7,11 @@ ghost use Rattle.plain_bus.specs.declared.cost.Steps.{Steps as StepsOf};
 ghost use Rattle.plain_bus.specs.SentSteps.{AreStepsOf, with_step};
 
 use crate::cost::Steps;
-use link_trace::bits::{lowest, without_bit};
+use link_trace::NodeSet;
 use lwb_base::MOST_NODES;
 
 /// The steps in which each of `MOST_NODES` nodes sent, by their places.
-pub fn steps_of_all(senders: &[u64]) -> [Steps; MOST_NODES]
+pub fn steps_of_all(senders: &[NodeSet]) -> [Steps; MOST_NODES]
     requires { length senders.now ≡ 12 }
     ensures { AreStepsOf senders.now 12 result }
 {
@@ -20,27 +20,27 @@ pub fn steps_of_all(senders: &[u64]) -> [Steps; MOST_NODES]
         last: None,
     };
     let mut all = [none; MOST_NODES];
-    for (step, mask) in senders.iter().enumerate() {
-        add_step(&mut all, *mask, step as u8);
+    for (step, nodes) in senders.iter().enumerate() {
+        add_step(&mut all, *nodes, step as u8);
     }
     all
 }
 
-// The nodes of the mask sent in this step, which comes after all that are counted.
-fn add_step(all: &mut [Steps], mask: u64, step: u8)
+// These nodes sent in this step, which comes after all that are counted.
+fn add_step(all: &mut [Steps], nodes: NodeSet, step: u8)
     requires size { length all.old ≡ MOST_NODES }
     requires early { step ≤ 11 }
     requires few { All (λ x. x.count ≤ step) all.old }
     ensures each { (i : ℕ) (d : StepsOf) → i < MOST_NODES → slice_index_or all.new i d
-        ≡ (if bit_at mask i == 1 then with_step step (slice_index_or all.old i d) else slice_index_or all.old i d) }
+        ≡ (if bit_at nodes i == 1 then with_step step (slice_index_or all.old i d) else slice_index_or all.old i d) }
     ensures size { length all.new ≡ MOST_NODES }
 {
-    let mut rest = mask;
-    while rest != 0 {
-        let place = lowest(rest);
+    let mut rest = nodes;
+    while !rest.is_empty() {
+        let place = rest.lowest();
         let steps = all[usize::from(place)];
         all[usize::from(place)] = with(steps, step);
-        rest = without_bit(rest, place);
+        rest = rest.without(place);
     }
 }
 

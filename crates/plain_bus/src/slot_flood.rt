@@ -21,6 +21,7 @@ use crate::slot_windows::open_all;
 use crate::station::Flood;
 use crate::window::Window;
 use bus_rules::Part;
+use link_trace::NodeSet;
 use lwb_base::{Memory, Rank};
 
 /// A slot of this part and number opens at all nodes in the round of this rank and frame, which is at most `LAST_FRAME`, and a
@@ -69,28 +70,28 @@ pub fn flood_in(windows: &[Window], frame: u32, slot: u8, limit: u8) -> Flood
 }
 
 // Those who say something.
-fn initiators_of(windows: &[Window]) -> u64
+fn initiators_of(windows: &[Window]) -> NodeSet
     requires { length windows.now ≤ MOST_NODES }
     ensures { (nodes : List ℕ) (test : ℕ → Bool) → map (λ w. w.initiates) windows.now ≡ map test nodes → IsMask test nodes result }
 {
-    let mut mask = 0;
+    let mut mask = NodeSet::EMPTY;
     for (i, window) in windows.iter().enumerate() {
         if window.initiates {
-            mask |= 1u64 << i;
+            mask = mask.with(i as u8);
         }
     }
     mask
 }
 
 // Those who take part.
-fn takers_of(windows: &[Window]) -> u64
+fn takers_of(windows: &[Window]) -> NodeSet
     requires { length windows.now ≤ MOST_NODES }
     ensures { (nodes : List ℕ) (test : ℕ → Bool) → map (λ w. w.takes_part) windows.now ≡ map test nodes → IsMask test nodes result }
 {
-    let mut mask = 0;
+    let mut mask = NodeSet::EMPTY;
     for (i, window) in windows.iter().enumerate() {
         if window.takes_part {
-            mask |= 1u64 << i;
+            mask = mask.with(i as u8);
         }
     }
     mask

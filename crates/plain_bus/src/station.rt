@@ -3,18 +3,19 @@
 ghost use Rattle.std.specs.Prelude.{◌≡◌, ◌<◌, ◌==◌, ◌∷◌, [], ◌++◌, length, None};
 
 use arrayvec::ArrayVec;
+use link_trace::NodeSet;
 use lwb_base::{MOST_NODES, NodeId};
 
-/// A flood: its slot of a frame, how often a node sends at most, and masks of the nodes, which the links are sealed with:
-/// of those that initiate, and of all that take part.
+/// A flood: its slot of a frame, how often a node sends at most, and which of the nodes that the links are sealed with
+/// initiate, and which take part.
 #[derive(Clone, Copy)]
 pub struct Flood {
     pub frame: u32,
     pub slot: u8,
     /// 1 to 4.
     pub limit: u8,
-    pub initiators: u64,
-    pub everyone: u64,
+    pub initiators: NodeSet,
+    pub everyone: NodeSet,
     /// The initiator, where there is one alone.
     pub lone: Option<NodeId>,
 }
@@ -45,9 +46,9 @@ impl Default for Station {
     }
 }
 
-/// All nodes at the beginning of a step, and the mask of those that send in it.
+/// All nodes at the beginning of a step, and those that send in it.
 #[derive(Drop)]
 pub struct Stations {
     pub each: ArrayVec<Station, MOST_NODES>,
-    pub senders: u64,
+    pub senders: NodeSet,
 }

@@ -6,14 +6,13 @@ ghost use Rattle.bus_terms.specs.Flooding.{Setting, Moment, moment, beginning, n
 ghost use Rattle.link_trace.specs.Sealed.{Traced};
 ghost use Rattle.scenario_text.specs.FloodParts.{IsSealed};
 ghost use Rattle.plain_bus.specs.FloodMasks.{AreAt, AreSenders, IsMaskedFlood, SendsForInitiators, IsLone, heard_alone, station_at, station_after};
-ghost use Rattle.plain_bus.specs.FloodMasks.{station_first, traced, with_sender};
+ghost use Rattle.plain_bus.specs.FloodMasks.{AddsSender, station_first, traced};
 
 use crate::hearing::{hears, hears_alone};
 use crate::reaching::reached_by;
 use crate::station::{Flood, Station, Stations};
 use arrayvec::ArrayVec;
-use link_trace::Links;
-use link_trace::bits::{has_bit, lowest, without_bit};
+use link_trace::{Links, NodeSet};
 use lwb_base::NodeId;
 use scenario_text::NodeLine;
 
@@ -45,7 +44,7 @@ impl Stations {
     {
         Stations {
             each: ArrayVec::new(),
-            senders: 0,
+            senders: NodeSet::EMPTY,
         }
     }
 
@@ -53,10 +52,10 @@ impl Stations {
     fn push(&mut self, station: Station)
         requires { length self.old.each.items < MOST_NODES }
         ensures each { self.new.each.items ≡ self.old.each.items ++ station ∷ [] }
-        ensures senders { self.new.senders ≡ with_sender self.old.senders (length self.old.each.items) station }
+        ensures senders { AddsSender self.old.senders (length self.old.each.items) station self.new.senders }
     {
         if station.sends.is_some() {
-            self.senders |= 1 << self.each.len();
+            self.senders = self.senders.with(self.each.len() as u8);
         }
         self.each.push(station);
     }
@@ -97,10 +96,10 @@ fn receive(station: &mut Station, step: u8, origin: NodeId)
     }
 }
 
-// Takes a node past a step in which this origin alone is sent, and reaches the nodes of the mask.
-fn pass(station: &mut Station, flood: &Flood, step: u8, place: u8, reached: u64, origin: NodeId)
+// Takes a node past a step in which this origin alone is sent, and reaches these nodes.
+fn pass(station: &mut Station, flood: &Flood, step: u8, place: u8, reached: NodeSet, origin: NodeId)
     requires step { step ≤ 11 }
-    requires place { place < 64 }
+    requires place { place < MOST_NODES }
     requires times { station.old.times ≤ step }
     ensures { station.new ≡ station_after step station.old (heard_alone flood.now reached place origin station.old) }
 {
@@ -126,13 +125,14 @@ impl Stations {
         ensures length { length self.new.each.items ≡ length (M.nodes links.now) }
         ensures times { All (λ x. x.times ≤ step + 1) self.new.each.items }
     {
-        let reached = reached_by(links, flood, step, self.senders, self.each.len());
-        let mut senders = 0;
+        let quiet = flood.everyone.except(self.senders);
+        let reached = reached_by(links, flood, step, self.senders, quiet, self.each.len());
+        let mut senders = NodeSet::EMPTY;
         let mut place = 0;
         for station in self.each.iter_mut() {
             pass(station, flood, step, place, reached, origin);
             if station.sends.is_some() {
-                senders |= 1 << place;
+                senders = senders.with(place);
             }
             place += 1;
         }
@@ -152,7 +152,7 @@ impl Stations {
         ensures length { length self.new.each.items ≡ length (M.nodes links.now) }
         ensures times { All (λ x. x.times ≤ step + 1) self.new.each.items }
     {
-        if self.senders == 0 {
+        if self.senders.is_empty() {
             return;
         }
         match flood.lone {
@@ -168,11 +168,11 @@ pub fn with_lone(flood: &Flood, nodes: &[NodeLine]) -> Flood
     ensures { (s : Setting) (t : Traced) → t.nodes ≡ map (λ n. n.node) nodes.now → IsMaskedFlood s t flood.now → IsMaskedFlood s t result }
 {
     let mut flood = *flood;
-    if flood.initiators == 0 {
+    if flood.initiators.is_empty() {
         return flood;
     }
-    let place = lowest(flood.initiators);
-    if without_bit(flood.initiators, place) == 0 && usize::from(place) < nodes.len() {
+    let place = flood.initiators.lowest();
+    if flood.initiators.without(place).is_empty() && usize::from(place) < nodes.len() {
         flood.lone = Some(nodes[usize::from(place)].node);
     }
     flood
@@ -194,12 +194,12 @@ pub fn first(flood: &Flood, nodes: &[NodeLine]) -> Stations
 
 // A node at the beginning, at this place.
 fn initiator(flood: &Flood, place: u8, node: NodeId) -> Station
-    requires { place < 64 }
+    requires { place < MOST_NODES }
     ensures { result ≡ station_first flood.now place node }
 {
     Station {
         node,
-        sends: if has_bit(flood.initiators, place) {
+        sends: if flood.initiators.has(place) {
             Some(node)
         } else {
             None
@@ -214,8 +214,8 @@ fn initiator(flood: &Flood, place: u8, node: NodeId) -> Station
 pub struct FloodEnd {
     /// All nodes after it.
     pub stations: Stations,
-    /// The mask of those that sent in each of its 12 steps.
-    pub senders: ArrayVec<u64, 12>,
+    /// Those that sent in each of its 12 steps.
+    pub senders: ArrayVec<NodeSet, 12>,
 }
 
 /// The flood among all nodes, which are those that the links are sealed with.

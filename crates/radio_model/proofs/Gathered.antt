@@ -63,10 +63,6 @@ first_bit a b i is =
       | inr one ↦ one
     ]
 
--- a bit of the second mask, where both share all of it
-pub bit_of_first : (a b i : ℕ) → bit_and a b ≡ b → bit_at b i ≡ 1 → bit_at a i ≡ 1
-bit_of_first a b i both one = first_bit a b i (ap (λ (n : ℕ). bit_at n i) both ∙ one)
-
 module _ (lines : Lines) (nodes : List ℕ) (p : Numbers) (x : Sending) (sts : List Station) where
   abbrev all : List Rival
   all = rivals_to p x sts
@@ -171,7 +167,7 @@ module _ (lines : Lines) (nodes : List ℕ) (p : Numbers) (x : Sending) (sts : L
     (placed : All (λ (st : Station). IsPlaceOf nodes st.place st.node) sts) (in_order : InOrder sts) (marks : AreMarks sts mks)
     (alike : AreAlikeTo sts mks origin x) (among : AreAmong p x sts places)
     (no_link : (k : ℕ) → k < length nodes → bit_at near k ≡ 0 → passes_at lines (key_of p x) (get_or nodes k 0) (get_or nodes i 0) ≡ false)
-    (is_far : (k : ℕ) → k < 64 → bit_at far k ≡ min (bit_at places k) (1 - bit_at near k))
+    (is_far : (k : ℕ) → bit_at far k ≡ min (bit_at places k) (1 - bit_at near k))
     (those : (d : Mark) → AreThose (λ k. not (comes_close opens (x.start + delta) x origin (get_or mks k d))) far strange) (c : Crowd) where
   no_rivals : (rs : List Rival) → rs ≡ [] → HasBitsOf lines nodes rs i c
   no_rivals rs is = record {
@@ -215,7 +211,7 @@ module _ (lines : Lines) (nodes : List ℕ) (p : Numbers) (x : Sending) (sts : L
         | inl none ↦ no_rivals (rivals_in p x (get_or sts k d)) (among.others k d below none)
         | inr one ↦ elim (bit_cases (bit_at near k) (bit_at-lt near k)) [
           | inl not_near ↦ elim (bit_cases (bit_at strange k) (bit_at-lt strange k)) [
-            | inl none ↦ far_tells k d below not_near (is_far k (omega arith) ∙ omega (arith, one, not_near)) none
+            | inl none ↦ far_tells k d below not_near (is_far k ∙ omega (arith, one, not_near)) none
             | inr one ↦ strange_tells k d one
           ]
           | inr is_near ↦ near_tells k d one is_near

@@ -34,12 +34,13 @@ left_one r s r_small s_small is = (omega arith, omega arith)
 pub left_none : (r s : ℕ) → r < 2 → s < 2 → min r (1 - s) ≡ 0 → r ≡ 1 → s ≡ 1
 left_none r s r_small s_small is one = omega arith
 
-pub left_bits : (a b left k : ℕ) → ((i : ℕ) → i < 64 → bit_at left i ≡ min (bit_at a i) (1 - bit_at b i)) → ((i : ℕ) → 64 ≤ i → bit_at left i ≡ 0)
-    → bit_at left k ≡ 1 → (bit_at a k ≡ 1) × (bit_at b k ≡ 0)
-left_bits a b left k bits above one = elim (cases_lt k 64) [
-  | inl inside ↦ left_one (bit_at a k) (bit_at b k) (bit_at-lt a k) (bit_at-lt b k) (sym (bits k inside) ∙ one)
-  | inr past ↦ absurd (omega (arith, one, above k past))
-]
+pub left_bits : (a b left k : ℕ) → ((i : ℕ) → bit_at left i ≡ min (bit_at a i) (1 - bit_at b i)) → bit_at left k ≡ 1 → (bit_at a k ≡ 1) × (bit_at b k ≡ 0)
+left_bits a b left k bits one = left_one (bit_at a k) (bit_at b k) (bit_at-lt a k) (bit_at-lt b k) (sym (bits k) ∙ one)
+
+-- none is left of the first, so all of it is in the second
+pub none_but : (a b left k : ℕ) → ((i : ℕ) → bit_at left i ≡ min (bit_at a i) (1 - bit_at b i)) → left ≡ 0 → bit_at a k ≡ 1 → bit_at b k ≡ 1
+none_but a b left k bits none one =
+    left_none (bit_at a k) (bit_at b k) (bit_at-lt a k) (bit_at-lt b k) (sym (bits k) ∙ ap (λ (n : ℕ). bit_at n k) none ∙ bit_at-zero k) one
 
 module _ (lines : Lines) (u : ℕ) (x : Sending) (key : Key) (rs : List Rival) where
   -- who receives at a place that is left

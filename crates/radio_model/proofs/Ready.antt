@@ -50,8 +50,7 @@ pub record AreReady (lines : Lines) (nodes : List ℕ) (u : ℕ) (x : Sending) (
   pub left : ℕ
   pub reach : IsMask (λ v. passes_at lines key u v) nodes reached
   pub lost_is : (i : ℕ) → bit_at lost i ≡ 1 → list_any (spoils lines (get_or nodes i 0)) rs ≡ true
-  pub left_is : (i : ℕ) → i < 64 → bit_at left i ≡ min (bit_at reached i) (1 - bit_at lost i)
-  pub above : (i : ℕ) → 64 ≤ i → bit_at left i ≡ 0
+  pub left_is : (i : ℕ) → bit_at left i ≡ min (bit_at reached i) (1 - bit_at lost i)
   pub those : (d : Station) → AreThose (λ k. is_ready x (get_or sts k d)) left ready
 
 module _ {lines : Lines} {nodes : List ℕ} {u : ℕ} {x : Sending} {key : Key} {rs : List Rival} {sts : List Station} {ready : ℕ}
@@ -63,7 +62,7 @@ module _ {lines : Lines} {nodes : List ℕ} {u : ℕ} {x : Sending} {key : Key} 
         arith,
         q.size,
         of_node nodes (λ v. passes_at lines key u v) q.reached i q.reach
-            (left_bits q.reached q.lost q.left i q.left_is q.above ((q.those (fresh 0 0)).among i one)).0,
+            (left_bits q.reached q.lost q.left i q.left_is ((q.those (fresh 0 0)).among i one)).0,
       )
 
   -- the node of a station is that of its place
@@ -89,14 +88,14 @@ module _ {lines : Lines} {nodes : List ℕ} {u : ℕ} {x : Sending} {key : Key} 
           ∙ if_unset nodes (λ v. passes_at lines key u v) q.reached q.reach k (node_at k d below).1 out)
       | inr in_reach ↦
           not_where_spoiled k d below (q.lost_is k (left_none (bit_at q.reached k) (bit_at q.lost k) (bit_at-lt q.reached k) (bit_at-lt q.lost k)
-          (sym (q.left_is k (omega (arith, q.few, below))) ∙ gone) in_reach))
+          (sym (q.left_is k) ∙ gone) in_reach))
     ]
   ]
 
   pub reached_where_ready : (k : ℕ) (d : Station) → k < length sts → bit_at ready k ≡ 1 → passes_at lines key u (get_or sts k d).node ≡ true
   reached_where_ready k d below one =
       let both = left_one (bit_at q.reached k) (bit_at q.lost k) (bit_at-lt q.reached k) (bit_at-lt q.lost k)
-      (sym (q.left_is k (omega (arith, q.few, below))) ∙ (q.those d).among k one) in
+      (sym (q.left_is k) ∙ (q.those d).among k one) in
       ap (λ (v : ℕ). passes_at lines key u v) (sym (node_at k d below).0) ∙ if_set nodes (λ v. passes_at lines key u v) q.reached q.reach k both.0
 
   -- what the test of another packet leaves
@@ -117,13 +116,13 @@ module _ {lines : Lines} {nodes : List ℕ} {u : ℕ} {x : Sending} {key : Key} 
       (reached_where_ready k d below one) (ap (λ (v : ℕ). list_any (spoils lines v) rs) (sym node) ∙ tells.spoiled clean) ((q.those d).so k one)
 
   pub not_where_left_out : (k : ℕ) (d : Station) (c : Crowd) (rest : ℕ) → k < length sts → IsFrom lines nodes rs c
-      → ((i : ℕ) → i < 64 → bit_at rest i ≡ min (bit_at ready i) (1 - bit_at c.spoiled i)) → bit_at rest k ≡ 0
+      → ((i : ℕ) → bit_at rest i ≡ min (bit_at ready i) (1 - bit_at c.spoiled i)) → bit_at rest k ≡ 0
       → is_heard lines u x key rs (get_or sts k d) ≡ false
   not_where_left_out k d c rest below from bits none = elim (bit_cases (bit_at ready k) (bit_at-lt ready k)) [
     | inl out ↦ not_where_unready k d below out
     | inr one ↦
         not_where_spoiled k d below (from.spoiled k (left_none (bit_at ready k) (bit_at c.spoiled k) (bit_at-lt ready k) (bit_at-lt c.spoiled k)
-        (sym (bits k (omega (arith, q.few, below))) ∙ none) one))
+        (sym (bits k) ∙ none) one))
   ]
 
   pub nobody_hears : ((i : ℕ) → bit_at ready i ≡ 1 → list_any (spoils lines (get_or nodes i 0)) rs ≡ true)

@@ -57,11 +57,13 @@ module _ (nodes : List ℕ) where
       ap (λ (n : ℕ). n == 1) (is i ∙ rw (lt-ltb i (length nodes) inside) refl) ∙ of_bit (test (get_or nodes i 0))
 
   -- what one transmission more does to the nodes
-  pub one_more_near : (test : ℕ → Sending → Bool) (near : List Sending) (k : ℕ) (y : Sending) (a b : ℕ) → k < length near → y ≡ get_or near k y
+  pub one_more_near : (test : ℕ → Sending → Bool) (near : List Sending) (k : ℕ) (y : Sending) (a b new : ℕ) → k < length near → y ≡ get_or near k y
+      → new ≡ bit_or a b
       → IsMask (λ v. list_any (test v) (take k near)) nodes a → IsMask (λ v. test v y) nodes b
-      → IsMask (λ v. list_any (test v) (take (k + 1) near)) nodes (bit_or a b)
-  one_more_near test near k y a b inside at so_far here =
-      one_more_line nodes test near k y a b inside so_far (subst (λ (z : Sending). IsMask (λ v. test v z) nodes b) at here)
+      → IsMask (λ v. list_any (test v) (take (k + 1) near)) nodes new
+  one_more_near test near k y a b new inside at both so_far here =
+      subst (λ (n : ℕ). IsMask (λ v. list_any (test v) (take (k + 1) near)) nodes n) (sym both)
+      (one_more_line nodes test near k y a b inside so_far (subst (λ (z : Sending). IsMask (λ v. test v z) nodes b) at here))
 
   -- a test before that of the nodes holds
   pub opened : (b : Bool) (test : ℕ → Bool) (mask : ℕ) → b ≡ true → IsMask test nodes mask → IsMask (λ v. b && test v) nodes mask

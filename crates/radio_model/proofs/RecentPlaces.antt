@@ -1,27 +1,57 @@
 -- Whose transmissions can matter, through the changes of a medium.
-use Rattle.std.proofs.Common.{◌≡◌, ◌≢◌, ℕ, ◌+◌, ◌<◌, ◌≤◌, inl, inr, List, length, set, get_or, true, false, ◌&&◌, nat_lt}
+use Rattle.std.proofs.Common.{◌≡◌, ◌≢◌, ℕ, ◌+◌, ◌<◌, ◌≤◌, inl, inr, List, length, set, get_or, Bool, true, false, not, ◌==◌, ◌&&◌, nat_lt, if◌then◌else◌}
 use Rattle.std.proofs.Common.{nat_le, Option, Some, None, is_some, refl, sym, ◌∙◌, ap, subst, arith}
-use Rattle.std.proofs.lemmas.Bool.{cases_lt, cases_eq, le-leb, lt-ltb, le-ltb, or_left, cond-true, cond-false}
+use Rattle.std.proofs.lemmas.Bool.{cases_lt, cases_eq, le-leb, leb-true, lt-ltb, le-ltb, or_left, cond-true, cond-false, and_parts, and_from, false≢true}
+use Rattle.std.proofs.lemmas.Bool.Decides.{nat_tests}
 use Rattle.std.proofs.lemmas.List.{length-map, length-set, get_or-set_same, get_or-set_other}
 use Rattle.std.proofs.lemmas.List.Elements.{Contains-append_right, All-contains}
-use Rattle.std.proofs.lemmas.Nat.Bits.{bit_at-zero}
+use Rattle.std.proofs.lemmas.Nat.Bits.{bit_at-zero, bit_at-lt}
 use Rattle.std.proofs.Math.Nat.{le-max_left, le-max_right}
 use Rattle.std.specs.Int.{bit_at}
 use Rattle.lwb_base.specs.Profile.{Numbers, airtime}
 use Rattle.radio_model.specs.Stations.{on_air, begins_on, id_of_station, station_after_start, current_or_next, next_sending}
 use Rattle.radio_model.specs.Stations.{stations_from}
-use Rattle.radio_model.specs.Marks.{AreMarks, no_mark, next_mark, next_marks}
-use Rattle.radio_model.specs.Recent.{AreRecent, AreAmong, IsRecentAfter, no_recent}
+use Rattle.radio_model.specs.Marks.{AreMarks, no_mark, next_mark, next_marks, comes_close, is_same}
+use Rattle.radio_model.specs.Recent.{AreRecent, AreAmong, IsOneOf, IsRecentAfter, no_recent, is_of, is_joined, is_close_by}
 use Rattle.radio_model.specs.declared.mark.Mark.{Mark}
 use Rattle.radio_model.specs.declared.mark.Origin.{Origin}
 use Rattle.radio_model.specs.declared.tuning.Tuned.{Tuned}
 use Rattle.radio_model.specs.declared.recent.Recent.{Recent}
 use Rattle.radio_model.specs.declared.sending.Sending.{Sending}
 use Rattle.radio_model.specs.declared.station.Station.{Station}
+use Rattle.radio_model.proofs.Alike.{origin_from}
 use Rattle.radio_model.proofs.Marked.{no_rivals_aside}
 use Rattle.lwb_base.proofs.Elements.{of_option}
 use Rattle.radio_model.proofs.BegunOrigins.{can_start, can't_start}
 use Rattle.radio_model.proofs.Places.{nodes_from}
+
+no_origin : (o : Origin) → (let none : Option Origin = None in none ≡ Some o) → ⊥
+no_origin o is = cc
+
+unset : (n : ℕ) → n < 2 → not (n == 1) ≡ true → n ≡ 0
+unset n small is = grind (arith, nat_tests)
+
+-- by the marks, those that have one origin come close to what runs
+pub close_recent : (now : ℕ) (sts : List Station) (mks : List Mark) (r : Recent) → AreRecent now sts mks r → (i : ℕ) (d : Station) (x : Sending)
+    → i < length sts → (get_or sts i d).sending ≡ Some x → (origin : Origin) (opens latest : ℕ) → is_close_by r origin opens latest ≡ true
+    → (k : ℕ) (e : Mark) → bit_at r.places k ≡ 1 → comes_close opens latest x origin (get_or mks k e) ≡ true
+close_recent now sts mks r are i d x below runs origin opens latest so k e one =
+    let parts = and_parts (is_of r.origin origin && nat_le opens r.since) (nat_le r.newest latest) so in
+    let two = and_parts (is_of r.origin origin) (nat_le opens r.since) parts.0 in
+    let since = are.running i d x below runs in
+    by r.origin refl two.0 since (leb-true opens r.since two.1) (leb-true r.newest latest parts.1)
+  where
+    by : (q : Option Origin) → r.origin ≡ q → is_of q origin ≡ true → r.since ≤ x.start → opens ≤ r.since → r.newest ≤ latest
+        → comes_close opens latest x origin (get_or mks k e) ≡ true
+    by None is so since early most = absurd (false≢true so)
+    by (Some o) is so since early most =
+        let mk = get_or mks k e in
+        let at = are.close o is k e one in
+        and_from (nat_le mk.before x.start && is_same mk.origin origin) (nat_le opens mk.start && nat_le mk.start latest)
+        (and_from (nat_le mk.before x.start) (is_same mk.origin origin) (le-leb mk.before x.start (omega (arith, at.before, since)))
+        (ap (λ (a : Origin). is_same a origin) at.origin_is ∙ so))
+        (and_from (nat_le opens mk.start) (nat_le mk.start latest) (le-leb opens mk.start (omega (arith, at.from, early)))
+        (le-leb mk.start latest (omega (arith, at.until, most))))
 
 -- the rivals of what a station sends are at the places of these
 pub among_recent : (p : Numbers) (now : ℕ) (sts : List Station) (mks : List Mark) (r : Recent) → AreMarks sts mks → AreRecent now sts mks r
@@ -40,8 +70,8 @@ among_recent p now sts mks r marks are i d x below runs = record {
 pub recent_stay : (now t : ℕ) (sts : List Station) (mks : List Mark) (r : Recent) (i : ℕ) (old new : Station) → i < length sts → old ≡ get_or sts i old
     → ((x : Sending) → new.sending ≡ Some x → old.sending ≡ Some x) → now ≤ t → AreRecent now sts mks r → AreRecent t (set sts i new) mks r
 recent_stay now t sts mks r i old new below at back later are = record {
-  since = are.since;
   by_now = omega (arith, are.by_now);
+  newest_by_now = omega (arith, are.newest_by_now);
   running = λ k d x inside runs. elim (cases_eq k i) [
     | inl here ↦
         let new_is : get_or (set sts i new) k d ≡ new = ap (λ (n : ℕ). get_or (set sts i new) n d) here ∙ get_or-set_same sts i new d below in
@@ -52,13 +82,37 @@ recent_stay now t sts mks r i old new below at back later are = record {
   others = λ k e inside. are.others k e (omega (arith, inside, length-set sts i new));
   within = λ k one. omega (arith, are.within k one, length-set sts i new);
   latest = λ k e inside. are.latest k e (omega (arith, inside, length-set sts i new));
+  close = are.close;
 }
+
+some_origin : (a b : Origin) → (let o : Option Origin = Some a in o ≡ Some b) → a ≡ b
+some_origin a b is = cc
+
+of_it : (q : Option Origin) (a o : Origin) → is_of q a ≡ true → q ≡ Some o → a ≡ o
+of_it None a o is said = absurd (false≢true is)
+of_it (Some one) a o is said = sym (origin_from one a is) ∙ some_origin one o said
+
+-- where one more has the origin of all others, its place is a new one
+joined : (r : Recent) (i : ℕ) (a o : Origin) → (let none : Option Origin = None in (if is_joined r i a then r.origin else none) ≡ Some o)
+    → (bit_at r.places i ≡ 0) × (r.origin ≡ Some o) × (a ≡ o)
+joined r i a o said = by (is_joined r i a) refl said
+  where
+    by : (b : Bool) → b ≡ is_joined r i a → (let none : Option Origin = None in (if b then r.origin else none) ≡ Some o)
+        → (bit_at r.places i ≡ 0) × (r.origin ≡ Some o) × (a ≡ o)
+    by false is said = absurd (no_origin o said)
+    by true is said =
+        let both = and_parts (not (bit_at r.places i == 1)) (is_of r.origin a) (sym is) in (
+          unset (bit_at r.places i) (bit_at-lt r.places i) both.0,
+          said,
+          of_it r.origin a o both.1 said,
+        )
 
 -- another transmission begins
 module _ (now t : ℕ) (sts : List Station) (mks : List Mark) (r s : Recent) (i : ℕ) (new : Station) (x : Sending) (mk : Mark) (below : i < length sts)
-    (one_each : length mks ≡ length sts) (sends : new.sending ≡ Some x) (starts : x.start ≡ t)
+    (one_each : length mks ≡ length sts) (sends : new.sending ≡ Some x) (starts : x.start ≡ t) (begun : mk.start ≡ t)
+    (prior : mk.before ≡ (get_or mks i no_mark).end)
     (marks : AreMarks sts mks) (still : (k : ℕ) (d : Station) (y : Sending) → k < length sts → (get_or sts k d).sending ≡ Some y
-    → t ≤ y.end) (later : now ≤ t) (is : IsRecentAfter i t mk.end r s) (are : AreRecent now sts mks r) where
+    → t ≤ y.end) (later : now ≤ t) (is : IsRecentAfter i t mk.end mk.origin r s) (are : AreRecent now sts mks r) where
   mark_at : (k : ℕ) (e : Mark) → k ≢ i → get_or (set mks i mk) k e ≡ get_or mks k e
   mark_at k e other = get_or-set_other mks i k mk e other
 
@@ -110,29 +164,80 @@ module _ (now t : ℕ) (sts : List Station) (mks : List Mark) (r s : Recent) (i 
         omega (arith, ap (λ (m : Mark). m.end) (mark_at k e other), old, is.latest, le-max_left r.latest mk.end)
   ]
 
+  new_mark : (k : ℕ) (e : Mark) → k ≡ i → mk ≡ get_or (set mks i mk) k e
+  new_mark k e here = sym (ap (λ (n : ℕ). get_or (set mks i mk) n e) here ∙ get_or-set_same mks i mk e (omega (arith, below, one_each)))
+
+  -- the first since all was over, and one more of those that were close
+  first_of_it : s.since ≡ t → mk.before ≤ t → (o : Origin) → mk.origin ≡ o → IsOneOf o s.since s.newest mk
+  first_of_it at over o same =
+      record {
+        origin_is = same;
+        before = omega (arith, at, over);
+        from = omega (arith, at, begun);
+        until = omega (arith, begun, is.newest);
+      }
+
+  one_more_of_it : s.since ≡ r.since → mk.before ≤ r.since → (o : Origin) → mk.origin ≡ o → IsOneOf o s.since s.newest mk
+  one_more_of_it at over o same =
+      record {
+        origin_is = same;
+        before = omega (arith, at, over);
+        from = omega (arith, at, begun, are.by_now);
+        until = omega (arith, begun, is.newest);
+      }
+
+  still_of_it : s.since ≡ r.since → (o : Origin) (m : Mark) → IsOneOf o r.since r.newest m → IsOneOf o s.since s.newest m
+  still_of_it at o m one =
+      record {
+        origin_is = one.origin_is;
+        before = omega (arith, at, one.before);
+        from = omega (arith, at, one.from);
+        until = omega (arith, one.until, is.newest, are.newest_by_now);
+      }
+
   pub recent_begun : AreRecent t (set sts i new) (set mks i mk) s
   recent_begun = elim (cases_lt r.latest t) [
     | inl over ↦
+        let begun_now : s.since ≡ t = is.since ∙ cond-true (nat_lt r.latest t) t r.since (lt-ltb r.latest t over) in
         let alone : (k : ℕ) → k ≢ i → bit_at s.places k ≡ 0 = λ k other.
         is.others k other ∙ ap (λ (n : ℕ). bit_at n k) (cond-true (nat_lt r.latest t) 0 r.places (lt-ltb r.latest t over)) ∙ bit_at-zero k in
         record {
-          since = t;
-          by_now = omega arith;
-          running = begins t (omega arith) (λ k d y inside other runs. absurd (omega (arith, over, runs_on k d y inside runs)));
-          others = over_by t (λ k e inside other none. omega (arith, over, are.latest k e inside));
+          by_now = omega (arith, begun_now);
+          newest_by_now = omega (arith, is.newest);
+          running = begins s.since (omega (arith, begun_now)) (λ k d y inside other runs. absurd (omega (arith, over, runs_on k d y inside runs)));
+          others = over_by s.since (λ k e inside other none. omega (arith, over, begun_now, are.latest k e inside));
           within = inside_all (λ k other one. absurd (omega (arith, one, alone k other)));
           latest = latest_all;
+          close = λ o said k e one. elim (cases_eq k i) [
+            | inl here ↦
+                subst (IsOneOf o s.since s.newest) (new_mark k e here)
+                (first_of_it begun_now (omega (arith, prior, over, are.latest i no_mark below)) o (some_origin mk.origin o
+                (sym (cond-true (nat_lt r.latest t) (Some mk.origin) _ (lt-ltb r.latest t over)) ∙ sym is.origin ∙ said)))
+            | inr other ↦ absurd (omega (arith, one, alone k other))
+          ];
         }
     | inr not ↦
+        let same_since : s.since ≡ r.since = is.since ∙ cond-false (nat_lt r.latest t) t r.since (le-ltb r.latest t not) in
         let kept : (k : ℕ) → k ≢ i → bit_at s.places k ≡ bit_at r.places k = λ k other.
         is.others k other ∙ ap (λ (n : ℕ). bit_at n k) (cond-false (nat_lt r.latest t) 0 r.places (le-ltb r.latest t not)) in
         record {
-          since = are.since;
-          by_now = omega (arith, are.by_now);
-          running = begins are.since (omega (arith, are.by_now)) (λ k d y inside other runs. are.running k d y inside runs);
-          others = over_by are.since (λ k e inside other none. are.others k e inside (sym (kept k other) ∙ none));
+          by_now = omega (arith, are.by_now, same_since);
+          newest_by_now = omega (arith, is.newest);
+          running = begins s.since (omega (arith, are.by_now, same_since)) (λ k d y inside other runs.
+              omega (arith, same_since, are.running k d y inside runs));
+          others = over_by s.since (λ k e inside other none. omega (arith, same_since, are.others k e inside (sym (kept k other) ∙ none)));
           within = inside_all (λ k other one. are.within k (sym (kept k other) ∙ one));
           latest = latest_all;
+          close = λ o said k e one.
+              let join = joined r i mk.origin o (sym (cond-false (nat_lt r.latest t) (Some mk.origin) _ (le-ltb r.latest t not)) ∙ sym is.origin ∙ said) in
+              elim (cases_eq k i) [
+                | inl here ↦
+                    subst (IsOneOf o s.since s.newest) (new_mark k e here)
+                    (one_more_of_it same_since (omega (arith, prior, are.others i no_mark below join.0)) o join.2)
+                | inr other ↦
+                    subst (IsOneOf o s.since s.newest) (sym (mark_at k e other))
+                    (still_of_it same_since o (get_or mks k e) (are.close o join.1 k e (sym (kept k other) ∙ one)))
+              ];
         }
   ]
 
@@ -142,7 +247,7 @@ pub recent_after_start : (p : Numbers) (now t end : ℕ) (packet : List ℕ) (st
     → new ≡ station_after_start p t packet old → now ≤ t → AreMarks sts mks
     → ((k : ℕ) (d : Station) (y : Sending) → k < length sts → (get_or sts k d).sending ≡ Some y
     → t ≤ y.end) → AreRecent now sts mks r
-    → (o : Option ℕ) → o ≡ begins_on old.tuning.now old.sending → (is_some o ≡ true → IsRecentAfter i t end r s) → (is_some o ≡ false → s ≡ r)
+    → (o : Option ℕ) → o ≡ begins_on old.tuning.now old.sending → (is_some o ≡ true → IsRecentAfter i t end origin r s) → (is_some o ≡ false → s ≡ r)
     → AreRecent t (set sts i new) (next_marks o t end origin i mks no_mark) s
 recent_after_start p now t end packet sts mks i old new origin r s below at is_started later marks still are (Some rank) is next stays =
     let can = can_start old.tuning.now old.sending rank is in
@@ -151,7 +256,7 @@ recent_after_start p now t end packet sts mks i old new origin r s below at is_s
     let sends : new.sending ≡ Some x =
     ap (λ (st : Station). st.sending) is_started ∙ ap (λ (o : Option Tuned). current_or_next old.sending (next_sending p t packet old.node o)) can.1
     ∙ ap (λ (o : Option Sending). current_or_next o (Some x)) can.2 in
-    recent_begun now t sts mks r s i new x (next_mark rank t end origin (get_or mks i no_mark)) below marks.one_each sends refl marks still later
+    recent_begun now t sts mks r s i new x (next_mark rank t end origin (get_or mks i no_mark)) below marks.one_each sends refl refl refl marks still later
     (next refl) are
 recent_after_start p now t end packet sts mks i old new origin r s below at is_started later marks still are None is next stays =
     subst (AreRecent t (set sts i new) mks) (sym (stays refl))
@@ -162,12 +267,13 @@ recent_after_start p now t end packet sts mks i old new origin r s below at is_s
 pub recent_first : (vs : List ℕ) (mks : List Mark) → ((k : ℕ) (e : Mark) → k < length vs → (get_or mks k e).end ≤ 0)
     → AreRecent 0 (stations_from 0 vs) mks no_recent
 recent_first vs mks none = record {
-  since = 0;
   by_now = omega arith;
+  newest_by_now = omega arith;
   running = λ k d x inside runs. omega arith;
   others = λ k e inside bit. none k e (omega (arith, inside, long));
   within = λ k one. absurd (omega (arith, one, bit_at-zero k));
   latest = λ k e inside. none k e (omega (arith, inside, long));
+  close = λ o said k e one. absurd (omega (arith, one, bit_at-zero k));
 }
   where
     long : length (stations_from 0 vs) ≡ length vs

@@ -1,9 +1,13 @@
 -- Those of the bits of a mask where a test holds, found one after the other.
-use Rattle.std.proofs.Common.{◌≡◌, ◌≢◌, ℕ, Bool, true, false, inl, inr, sym, ◌∙◌, ap, arith}
-use Rattle.std.proofs.lemmas.Bool.{cases_eq}
+use Rattle.std.proofs.Common.{◌≡◌, ◌≢◌, ℕ, ◌==◌, Bool, true, false, inl, inr, sym, ◌∙◌, ap, arith}
+use Rattle.std.proofs.lemmas.Bool.{cases_eq, eqb-true}
 use Rattle.std.proofs.lemmas.Nat.Bits.{bit_at-zero}
 use Rattle.std.specs.Int.{bit_at}
 use Rattle.radio_model.specs.Meetings.{AreThose}
+
+-- a set is empty, by its test
+pub is_none : (n : ℕ) (b : Bool) → b ≡ (n == 0) → b ≡ true → n ≡ 0
+is_none n b is so = eqb-true n 0 (sym is ∙ so)
 
 -- what is kept so far, while the rest is left
 pub record Picks (test : ℕ → Bool) (mask kept rest : ℕ) : Type 0 where
@@ -55,6 +59,14 @@ module _ (test : ℕ → Bool) (mask kept rest new place : ℕ) (was : Picks tes
       | inr other ↦ was.others k one (sym (same k other) ∙ none)
     ];
   }
+
+-- where it holds of none
+pub those_of_none : (test : ℕ → Bool) (mask : ℕ) → ((k : ℕ) → bit_at mask k ≡ 1 → test k ≡ false) → AreThose test mask 0
+those_of_none test mask not_one = record {
+  among = λ k one. absurd (omega (arith, one, bit_at-zero k));
+  so = λ k one. absurd (omega (arith, one, bit_at-zero k));
+  others = λ k one none. not_one k one;
+}
 
 pub none_left : (test : ℕ → Bool) (mask kept rest : ℕ) → rest ≡ 0 → Picks test mask kept rest → AreThose test mask kept
 none_left test mask kept rest over is = record {

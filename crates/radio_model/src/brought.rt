@@ -7,16 +7,16 @@ ghost use Rattle.radio_model.specs.Meetings.{rival_to as rival_by, rivals_in, Is
 use crate::rivals::{Rival, ended_at, first_after, reach_of, rival_to};
 use crate::sending::Sending;
 use crate::station::Station;
-use link_trace::Links;
+use link_trace::{Links, NodeSet};
 use lwb_base::Profile;
 
 /// What rivals bring to nodes: to which they bring other packets, to which the same packet out of time, and to which
-/// the same packet at all, each node by the bit of its place.
+/// the same packet at all.
 #[derive(Clone, Copy)]
 pub struct Brought {
-    pub mixed: u64,
-    pub spoiled: u64,
-    pub same: u64,
+    pub mixed: NodeSet,
+    pub spoiled: NodeSet,
+    pub same: NodeSet,
 }
 
 impl Brought {
@@ -24,14 +24,14 @@ impl Brought {
         ensures { result ≡ nothing_brought }
     {
         Brought {
-            mixed: 0,
-            spoiled: 0,
-            same: 0,
+            mixed: NodeSet::EMPTY,
+            spoiled: NodeSet::EMPTY,
+            same: NodeSet::EMPTY,
         }
     }
 
     // What a rival with this reach brings.
-    fn by(rival: &Rival, reach: u64) -> Brought
+    fn by(rival: &Rival, reach: NodeSet) -> Brought
         ensures { result ≡ brought_by rival.now reach }
     {
         Brought {
@@ -45,17 +45,17 @@ impl Brought {
         ensures { result ≡ both_brought self other }
     {
         Brought {
-            mixed: self.mixed | other.mixed,
-            spoiled: self.spoiled | other.spoiled,
-            same: self.same | other.same,
+            mixed: self.mixed.or(other.mixed),
+            spoiled: self.spoiled.or(other.spoiled),
+            same: self.same.or(other.same),
         }
     }
 }
 
-fn where_so(so: bool, mask: u64) -> u64
-    ensures { result ≡ if so then mask else 0 }
+fn where_so(so: bool, nodes: NodeSet) -> NodeSet
+    ensures { result ≡ if so then nodes else 0 }
 {
-    if so { mask } else { 0 }
+    if so { nodes } else { NodeSet::EMPTY }
 }
 
 // What y, of this station, does to x while x is on the air: to which nodes it comes, and whether in time.

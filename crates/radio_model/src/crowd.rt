@@ -1,6 +1,6 @@
 //! What keeps a transmission from being received.
 
-ghost use Rattle.std.specs.Prelude.{◌≡◌, ◌<◌, ℕ, length, IfSome, IfNone, slice_index_or, not};
+ghost use Rattle.std.specs.Prelude.{◌≡◌, ◌<◌, ◌-◌, ℕ, min, length, IfSome, IfNone, slice_index_or, not};
 ghost use Rattle.std.specs.Int.{bit_at};
 ghost use Rattle.radio_model.specs.Endings.{IsEnding, rivals_at, rivals_of};
 ghost use Rattle.radio_model.specs.Marks.{comes_close};
@@ -13,15 +13,14 @@ use crate::ending::Ending;
 use crate::mark::{Mark, Origin};
 use crate::rivals::{Key, reach_of};
 use crate::sending::Sending;
-use link_trace::Links;
-use link_trace::bits::{lowest, without_bit, without_bits};
+use link_trace::{Links, NodeSet};
 
 /// What keeps a transmission from being received: to which nodes other packets come while it does, and to which its own packet
-/// comes out of time, each node by the bit of its place.
+/// comes out of time.
 #[derive(Clone, Copy)]
 pub struct Crowd {
-    pub mixed: u64,
-    pub spoiled: u64,
+    pub mixed: NodeSet,
+    pub spoiled: NodeSet,
 }
 
 impl Crowd {
@@ -29,8 +28,8 @@ impl Crowd {
         ensures { result ≡ no_crowd }
     {
         Crowd {
-            mixed: 0,
-            spoiled: 0,
+            mixed: NodeSet::EMPTY,
+            spoiled: NodeSet::EMPTY,
         }
     }
 
@@ -38,9 +37,17 @@ impl Crowd {
         ensures { result ≡ both_crowds self other }
     {
         Crowd {
-            mixed: self.mixed | other.mixed,
-            spoiled: self.spoiled | other.spoiled,
+            mixed: self.mixed.or(other.mixed),
+            spoiled: self.spoiled.or(other.spoiled),
         }
+    }
+
+    /// Those of the nodes to which the packet does not come out of time.
+    #[inline(always)]
+    pub(crate) fn left_of(&self, nodes: NodeSet) -> NodeSet
+        ensures { (i : ℕ) → bit_at result i ≡ min (bit_at nodes i) (1 - bit_at self.now.spoiled i) }
+    {
+        nodes.except(self.spoiled)
     }
 }
 
@@ -62,7 +69,7 @@ fn crowd_at<M: Links>(links: &M, ending: &Ending, place: u8) -> Crowd
     }
     if mark.comes_early(x, station.node, ending.origin, ending.opens) {
         return Crowd {
-            mixed: 0,
+            mixed: NodeSet::EMPTY,
             spoiled: reach_of(links, ending.key, station.place),
         };
     }
@@ -78,8 +85,8 @@ fn crowd_at<M: Links>(links: &M, ending: &Ending, place: u8) -> Crowd
 fn crowd_with<M: Links>(
     links: &M,
     ending: &Ending,
-    places: u64,
-    ready: u64,
+    places: NodeSet,
+    ready: NodeSet,
     known: Crowd,
 ) -> Option<Crowd>
     requires ending { IsEnding (M.nodes links.now) ending.now }
@@ -93,12 +100,12 @@ fn crowd_with<M: Links>(
 {
     let mut crowd = known;
     let mut rest = places;
-    while rest != 0 {
-        let place = lowest(rest);
-        rest = without_bit(rest, place);
+    while !rest.is_empty() {
+        let place = rest.lowest();
+        rest = rest.without(place);
         let other = crowd_at(links, ending, place);
         crowd = crowd.with(other);
-        if crowd.spoiled & ready == ready {
+        if crowd.left_of(ready).is_empty() {
             return None;
         }
     }
@@ -106,16 +113,17 @@ fn crowd_with<M: Links>(
 }
 
 // The places of the nodes from which a link passes at the key to one of those that are ready.
-fn near_of<M: Links>(links: &M, key: Key, ready: u64) -> u64
+fn near_of<M: Links>(links: &M, key: Key, ready: NodeSet) -> NodeSet
     requires within { (i : ℕ) → bit_at ready i ≡ 1 → i < length (M.nodes links.now) }
     ensures { IsNear (M.lines links.now) key (M.nodes links.now) (λ i. bit_at ready i ≡ 1) result }
 {
-    let mut near = 0;
+    let mut near = NodeSet::EMPTY;
     let mut rest = ready;
-    while rest != 0 {
-        let place = lowest(rest);
-        rest = without_bit(rest, place);
-        near |= links.from_mask(key.frame, key.slot, key.counter, place);
+    while !rest.is_empty() {
+        let place = rest.lowest();
+        rest = rest.without(place);
+        let from = links.from_mask(key.frame, key.slot, key.counter, place);
+        near = near.or(NodeSet::of_word(from));
     }
     near
 }
@@ -124,22 +132,22 @@ fn near_of<M: Links>(links: &M, key: Key, ready: u64) -> u64
 // the ticks from `opens` to `latest`.
 fn strangers(
     marks: &[Mark],
-    places: u64,
+    places: NodeSet,
     x: &Sending,
     origin: Origin,
     opens: u64,
     latest: u64,
-) -> u64
+) -> NodeSet
     requires within { (k : ℕ) → bit_at places k ≡ 1 → k < length marks.now }
     ensures { (d : Mark) → AreThose (λ k. not (comes_close opens latest x.now origin (slice_index_or marks.now k d))) places result }
 {
     let mut strange = places;
     let mut rest = places;
-    while rest != 0 {
-        let place = lowest(rest);
-        rest = without_bit(rest, place);
+    while !rest.is_empty() {
+        let place = rest.lowest();
+        rest = rest.without(place);
         if marks[usize::from(place)].comes_close(x, origin, opens, latest) {
-            strange = without_bit(strange, place);
+            strange = strange.without(place);
         }
     }
     strange
@@ -148,7 +156,7 @@ fn strangers(
 /// What keeps x from being received by the nodes that are ready for it. Returns `None` only if its packet comes out of time to
 /// each of these nodes. First come the stations from which a link passes to one of them. For the others a look at their marks
 /// is mostly enough.
-pub fn crowd_of<M: Links>(links: &M, ending: &Ending, ready: u64) -> Option<Crowd>
+pub fn crowd_of<M: Links>(links: &M, ending: &Ending, ready: NodeSet) -> Option<Crowd>
     requires ending { IsEnding (M.nodes links.now) ending.now }
     requires within { (i : ℕ) → bit_at ready i ≡ 1 → i < length (M.nodes links.now) }
     ensures from { IfSome result (IsFrom (M.lines links.now) (M.nodes links.now) (rivals_of ending.now)) }
@@ -156,12 +164,15 @@ pub fn crowd_of<M: Links>(links: &M, ending: &Ending, ready: u64) -> Option<Crow
         → HasBitsOf (M.lines links.now) (M.nodes links.now) (rivals_of ending.now) i c) }
     ensures none { IfNone result (AreSpoiled (M.lines links.now) (M.nodes links.now) (rivals_of ending.now) ready) }
 {
-    if ready == 0 {
+    if ready.is_empty() {
         return None;
     }
     let near = near_of(links, ending.key, ready);
-    let crowd = crowd_with(links, ending, ending.places & near, ready, Crowd::none())?;
-    let far = without_bits(ending.places, near);
+    let crowd = crowd_with(links, ending, ending.places.and(near), ready, Crowd::none())?;
+    let far = ending.places.except(near);
+    if ending.close {
+        return Some(crowd);
+    }
     let latest = ending.x.start + ending.delta;
     let strange = strangers(
         ending.marks,
@@ -171,7 +182,7 @@ pub fn crowd_of<M: Links>(links: &M, ending: &Ending, ready: u64) -> Option<Crow
         ending.opens,
         latest,
     );
-    if strange == 0 {
+    if strange.is_empty() {
         return Some(crowd);
     }
     crowd_with(links, ending, strange, ready, crowd)
@@ -179,21 +190,21 @@ pub fn crowd_of<M: Links>(links: &M, ending: &Ending, ready: u64) -> Option<Crow
 
 /// The nodes at which an earlier copy from the node that began the packet of x spoils x, as far as the mark of that node shows.
 /// Where many receive each other, these are nearly all.
-pub fn lost_early<M: Links>(links: &M, ending: &Ending) -> u64
+pub fn lost_early<M: Links>(links: &M, ending: &Ending) -> NodeSet
     requires ending { IsEnding (M.nodes links.now) ending.now }
     ensures { AreSpoiled (M.lines links.now) (M.nodes links.now) (rivals_of ending.now) result }
 {
     let x = ending.x;
     let first = usize::from(ending.origin.place);
     if first >= ending.stations.len() {
-        return 0;
+        return NodeSet::EMPTY;
     }
     let station = &ending.stations[first];
     let mark = &ending.marks[first];
     if mark.is_aside(x.start, x.end)
         || !mark.comes_early(x, station.node, ending.origin, ending.opens)
     {
-        return 0;
+        return NodeSet::EMPTY;
     }
     reach_of(links, ending.key, station.place)
 }

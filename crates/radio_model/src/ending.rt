@@ -4,6 +4,7 @@ use crate::mark::{Mark, Origin};
 use crate::rivals::Key;
 use crate::sending::Sending;
 use crate::station::Station;
+use link_trace::NodeSet;
 use lwb_base::Profile;
 
 /// A transmission x that ends now, with what the medium knows of it. Contracts ask that it is so (`IsEnding`).
@@ -16,8 +17,10 @@ pub struct Ending<'a> {
     pub origin: Origin,
     /// A tick since which the frame is the one in which x began.
     pub opens: u64,
-    /// The places among which all its rivals are, each by its bit.
-    pub places: u64,
+    /// The places among which all its rivals are.
+    pub places: NodeSet,
+    /// What their marks show: all of these send the packet of x, once each, not before `opens` and in time after x.
+    pub close: bool,
     /// All stations, by their places.
     pub stations: &'a [Station],
     /// The transmissions of the stations in short.

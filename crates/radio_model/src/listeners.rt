@@ -12,15 +12,14 @@ ghost use Rattle.radio_model.specs.declared.station.Station.{Station};
 ghost use Rattle.radio_model.specs.Meetings.{hearers_to, is_chosen as is_chosen_by, is_ready as ready_for, AreThose, IsPlaceOf};
 
 use crate::chosen::is_chosen;
-use crate::crowd::{crowd_of, lost_early};
+use crate::crowd::{Crowd, crowd_of, lost_early};
 use crate::ending::Ending;
 use crate::hearers::Hearers;
 use crate::mark::Mark;
 use crate::rivals::reach_of;
 use crate::sending::Sending;
 use crate::station::Station;
-use link_trace::Links;
-use link_trace::bits::{has_bit, lowest, without_bit, without_bits};
+use link_trace::{Links, NodeSet};
 
 /// Who receives x, the transmission of the station `from`, now that it ends.
 pub fn listeners<M: Links>(links: &M, ending: &Ending, from: &Station) -> Hearers
@@ -30,18 +29,18 @@ pub fn listeners<M: Links>(links: &M, ending: &Ending, from: &Station) -> Hearer
 {
     let reached = reach_of(links, ending.key, from.place);
     let lost = lost_early(links, ending);
-    let left = without_bits(reached, lost);
+    let left = reached.except(lost);
     let ready = ready_of(ending.stations, ending.marks, left, ending.x);
     let Some(crowd) = crowd_of(links, ending, ready) else {
         return Hearers::none();
     };
     let mut hearers = Hearers::none();
-    let mut rest = without_bits(ready, crowd.spoiled);
-    while rest != 0 {
-        let place = lowest(rest);
-        rest = without_bit(rest, place);
+    let mut rest = crowd.left_of(ready);
+    while !rest.is_empty() {
+        let place = rest.lowest();
+        rest = rest.without(place);
         let at = &ending.stations[usize::from(place)];
-        if is_taken(links, ending, at, place, crowd.mixed) {
+        if is_taken(links, ending, at, place, &crowd) {
             hearers.push(at.node, from.node);
         }
     }
@@ -49,7 +48,7 @@ pub fn listeners<M: Links>(links: &M, ending: &Ending, from: &Station) -> Hearer
 }
 
 // Those of the nodes at these places that are tuned to the channel of x all the time and send nothing next to it.
-fn ready_of(stations: &[Station], marks: &[Mark], places: u64, x: &Sending) -> u64
+fn ready_of(stations: &[Station], marks: &[Mark], places: NodeSet, x: &Sending) -> NodeSet
     requires aged { All (λ st. IsAged x.now.end st.ended.items) stations.now }
     requires marks { AreMarks stations.now marks.now }
     requires within { (k : ℕ) → bit_at places k ≡ 1 → k < length stations.now }
@@ -57,12 +56,12 @@ fn ready_of(stations: &[Station], marks: &[Mark], places: u64, x: &Sending) -> u
 {
     let mut ready = places;
     let mut rest = places;
-    while rest != 0 {
-        let place = lowest(rest);
-        rest = without_bit(rest, place);
+    while !rest.is_empty() {
+        let place = rest.lowest();
+        rest = rest.without(place);
         let i = usize::from(place);
         if !is_ready(&stations[i], &marks[i], x) {
-            ready = without_bit(ready, place);
+            ready = ready.without(place);
         }
     }
     ready
@@ -78,14 +77,14 @@ fn is_ready(at: &Station, mark: &Mark, x: &Sending) -> bool
 }
 
 // Whether the node at `at`, which is ready and reached by x in time, takes it: another packet may come to it too.
-fn is_taken<M: Links>(links: &M, ending: &Ending, at: &Station, place: u8, mixed: u64) -> bool
+fn is_taken<M: Links>(links: &M, ending: &Ending, at: &Station, place: u8, crowd: &Crowd) -> bool
     requires ending { IsEnding (M.nodes links.now) ending.now }
     requires at { IsPlaceOf (M.nodes links.now) at.now.place at.now.node }
     requires place { place ≡ at.now.place }
-    ensures { result ≡ (not (bit_at mixed place == 1) || is_chosen_by (M.lines links.now) at.now.node (rivals_of ending.now)
+    ensures { result ≡ (not (bit_at crowd.now.mixed place == 1) || is_chosen_by (M.lines links.now) at.now.node (rivals_of ending.now)
         (captured (M.lines links.now) ending.now.key.frame ending.now.key.slot ending.now.key.counter at.now.node)) }
 {
-    !has_bit(mixed, place)
+    !crowd.mixed.has(place)
         || is_chosen(
             links,
             ending.profile,

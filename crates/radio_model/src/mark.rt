@@ -2,12 +2,13 @@
 
 ghost use Rattle.std.specs.Int.{bit_at};
 ghost use Rattle.std.specs.Prelude.{ℕ, ◌≡◌, ◌≤◌, ◌<◌, ◌^◌, if◌then◌else◌, length, slice_index_or, slice_set};
+ghost use Rattle.lwb_base.specs.declared.limits.TheConstants.{MOST_NODES};
 ghost use Rattle.radio_model.specs.Marks.{no_mark, next_mark, next_marks, comes_close, comes_early, is_aside, is_same, comes_along, IsOrigin};
 ghost use Rattle.radio_model.specs.Marks.{sends_packet as packet_sent};
 
 use crate::sending::Sending;
 use crate::station::Station;
-use link_trace::bits::{lowest, without_bit};
+use link_trace::NodeSet;
 use lwb_base::{NodeId, Packet, Rank};
 
 /// Where a packet on the air comes from: the first that began of those that have it and ran on, one into the next, by the place
@@ -19,7 +20,7 @@ pub struct Origin {
 }
 
 impl Origin {
-    fn is_same(self, other: Origin) -> bool
+    pub(crate) fn is_same(self, other: Origin) -> bool
         ensures { result ≡ is_same self other }
     {
         self.place == other.place && self.start == other.start
@@ -127,25 +128,25 @@ pub(crate) fn raise(
     }
 }
 
-/// The origin of a packet whose transmission begins at t at that place: that of the same packet on the air, from one of the
-/// places of the mask, or else its own.
+/// The origin of a packet whose transmission begins at t at that place: that of the same packet on the air, from one of
+/// these places, or else its own.
 pub(crate) fn origin_of(
     stations: &[Station],
     marks: &[Mark],
-    places: u64,
+    places: NodeSet,
     place: usize,
     t: u64,
     packet: &Packet,
 ) -> Origin
-    requires place { place < 64 }
+    requires place { place < MOST_NODES }
     requires one_each { length marks.now ≡ length stations.now }
     requires within { (k : ℕ) → bit_at places k ≡ 1 → k < length stations.now }
     ensures { IsOrigin stations.now marks.now place t packet.now result }
 {
     let mut rest = places;
-    while rest != 0 {
-        let next = lowest(rest);
-        rest = without_bit(rest, next);
+    while !rest.is_empty() {
+        let next = rest.lowest();
+        rest = rest.without(next);
         let i = usize::from(next);
         if t < marks[i].end && sends_packet(&stations[i], t, packet) {
             return marks[i].origin;

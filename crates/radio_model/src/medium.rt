@@ -141,7 +141,7 @@ impl Medium {
         let rank = station.start(t, end, packet);
         raise(&mut self.marks, place, rank, t, end, origin);
         let starts = rank.is_some();
-        self.recent = self.recent.next(starts, place as u8, t, end);
+        self.recent = self.recent.next(starts, place as u8, t, end, origin);
         self.time = t;
         starts
     }
@@ -195,12 +195,15 @@ impl Medium {
         let Some(x) = &from.sending else {
             unreachable!()
         };
+        let origin = self.marks[place].origin;
+        let opens = frame_start(&self.profile, x.start);
         let ending = Ending {
             x,
             key: Key::of(&self.profile, x),
-            origin: self.marks[place].origin,
-            opens: frame_start(&self.profile, x.start),
+            origin,
+            opens,
             places: self.recent.places,
+            close: self.recent.is_close(origin, opens, x.start + self.delta),
             stations: &self.stations,
             marks: &self.marks,
             profile: &self.profile,

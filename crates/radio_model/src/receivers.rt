@@ -1,5 +1,5 @@
-//! Which nodes receive a transmission, decided over a list of transmissions. Nodes are those of the seal of a trace, and bit i
-//! of a mask is that of node i.
+//! Which nodes receive a transmission, decided over a list of transmissions. Nodes are those of the seal of a trace, and
+//! place i of a set is that of node i.
 
 ghost use Rattle.std.specs.Prelude.{Bool, ◌≡◌, ◌==◌, ◌&&◌, ◌↔◌, ◌<◌, ◌≤◌, ◌^◌, ℕ, List, All, Contains, length, slice_index, not, true, IfSome, IfNone};
 ghost use Rattle.std.specs.List.{list_any};
@@ -18,15 +18,14 @@ ghost use Rattle.radio_model.specs.Receptions.{repeats as repetition, meets_on a
 use crate::captured::{arrives, is_captured};
 use crate::meeting::{comes_in_time, meets_on, overlap, repeats};
 use crate::sending::Sending;
-use link_trace::Trace;
-use link_trace::bits::has_bit;
+use link_trace::{NodeSet, Trace};
 use lwb_base::{NodeId, Profile};
 
-/// Of a transmission, the bit of its sender, and those of the nodes to which a link passes from it.
+/// Of a transmission, its sender, and the nodes to which a link passes from it.
 #[derive(Clone, Copy)]
 pub struct Reach {
-    pub from: u64,
-    pub to: u64,
+    pub from: NodeSet,
+    pub to: NodeSet,
 }
 
 /// The sender of y, and the nodes to which a link passes from it.
@@ -38,18 +37,18 @@ pub(crate) fn reach_of(profile: &Profile, trace: &Trace, nodes: &[NodeId], y: &S
 {
     match nodes.binary_search(&y.node) {
         Ok(place) => Reach {
-            from: 1 << place,
+            from: NodeSet::EMPTY.with(place as u8),
             to: reached_from(profile, trace, y, place as u8),
         },
         Err(_) => Reach {
-            from: 0,
+            from: NodeSet::EMPTY,
             to: reached_by_other(profile, trace, nodes, y),
         },
     }
 }
 
 /// The nodes to which x comes and where nothing on the air keeps it from being received, where all transmissions are near
-/// that overlap it. So a node that is tuned to the channel of x as long as x lasts receives it if and only if its bit is set.
+/// that overlap it. So a node that is tuned to the channel of x as long as x lasts receives it if and only if its place is in the set.
 pub(crate) fn receivers(
     profile: &Profile,
     trace: &Trace,
@@ -58,7 +57,7 @@ pub(crate) fn receivers(
     reaches: &[Reach],
     x: &Sending,
     reach: Reach,
-) -> u64
+) -> NodeSet
     requires nodes { AreNodes nodes.now }
     requires start { x.now.start ≤ 2 ^ 46 }
     requires starts { All (λ y. y.start ≤ 2 ^ 46) near.now }
@@ -69,42 +68,34 @@ pub(crate) fn receivers(
 {
     let Some(Disturbed { busy, late, mixed }) = disturbance(profile, near, reaches, x, reach.to)
     else {
-        return 0;
+        return NodeSet::EMPTY;
     };
     let lost = lost(profile, trace, nodes, near, x, mixed);
-    let quiet = except(reach.to, busy);
-    let clean = except(quiet, late);
-    except(clean, lost)
+    let quiet = reach.to.except(busy);
+    let clean = quiet.except(late);
+    clean.except(lost)
 }
 
-// The nodes of the mask that are not in the other one.
-fn except(mask: u64, other: u64) -> u64
-    ensures { (nodes : List ℕ) (m o : ℕ → Bool) → length nodes ≤ MOST_NODES → IsMask m nodes mask → IsMask o nodes other
-        → IsMask (λ v. m v && not (o v)) nodes result }
-{
-    mask & !other
-}
-
-/// Whether the node is one of these, and its bit is set in the mask.
-pub fn is_among(nodes: &[NodeId], mask: u64, node: NodeId) -> bool
+/// Whether the node is one of these, and its place is in the set.
+pub fn is_among(nodes: &[NodeId], places: NodeSet, node: NodeId) -> bool
     requires { AreNodes nodes.now }
-    ensures { result ≡ true ↔ IsAmong nodes.now mask node }
+    ensures { result ≡ true ↔ IsAmong nodes.now places node }
 {
     match nodes.binary_search(&node) {
-        Ok(place) => has_bit(mask, place as u8),
+        Ok(place) => places.has(place as u8),
         Err(_) => false,
     }
 }
 
-/// What those that overlap x do to it, as masks of nodes.
+/// What those that overlap x do to it, by nodes.
 #[derive(Clone, Copy)]
 pub struct Disturbed {
     /// They transmit themselves.
-    pub busy: u64,
+    pub busy: NodeSet,
     /// The packet of x comes to them earlier than x, or too late after it.
-    pub late: u64,
+    pub late: NodeSet,
     /// Another packet comes to them on the channel of x.
-    pub mixed: u64,
+    pub mixed: NodeSet,
 }
 
 // What the transmissions near x do to it at these nodes, which x reaches. Returns `None` if none of the nodes can receive x:
@@ -114,7 +105,7 @@ fn disturbance(
     near: &[Sending],
     reaches: &[Reach],
     x: &Sending,
-    to: u64,
+    to: NodeSet,
 ) -> Option<Disturbed>
     requires start { x.now.start ≤ 2 ^ 46 }
     requires one_each { length reaches.now ≡ length near.now }
@@ -124,17 +115,17 @@ fn disturbance(
         → AreReaches profile.now lines nodes near.now reaches.now → IsMask m nodes to
         → IsMask (λ v. m v && not (list_any (transmits v x.now) near.now) && not (list_any (spoils profile.now lines v x.now) near.now)) nodes 0) }
 {
-    let mut busy = 0;
-    let mut late = 0;
-    let mut mixed = 0;
+    let mut busy = NodeSet::EMPTY;
+    let mut late = NodeSet::EMPTY;
+    let mut mixed = NodeSet::EMPTY;
     for (k, y) in near.iter().enumerate() {
         let by = disturbed_by(profile, x, y, &reaches[k]);
-        busy |= by.busy;
-        late |= by.late;
-        mixed |= by.mixed;
-        let quiet = except(to, busy);
-        let left = except(quiet, late);
-        if left == 0 {
+        busy = busy.or(by.busy);
+        late = late.or(by.late);
+        mixed = mixed.or(by.mixed);
+        let quiet = to.except(busy);
+        let left = quiet.except(late);
+        if left.is_empty() {
             return None;
         }
     }
@@ -152,16 +143,16 @@ fn disturbed_by(profile: &Profile, x: &Sending, y: &Sending, reach: &Reach) -> D
 {
     if !overlap(x, y) {
         return Disturbed {
-            busy: 0,
-            late: 0,
-            mixed: 0,
+            busy: NodeSet::EMPTY,
+            late: NodeSet::EMPTY,
+            mixed: NodeSet::EMPTY,
         };
     }
-    if reach.to == 0 {
+    if reach.to.is_empty() {
         return Disturbed {
             busy: reach.from,
-            late: 0,
-            mixed: 0,
+            late: NodeSet::EMPTY,
+            mixed: NodeSet::EMPTY,
         };
     }
     let same = repeats(x, y);
@@ -173,7 +164,7 @@ fn disturbed_by(profile: &Profile, x: &Sending, y: &Sending, reach: &Reach) -> D
 }
 
 // The nodes to which y comes, if it repeats x but doesn't come in time.
-fn late_by(profile: &Profile, x: &Sending, y: &Sending, same: bool, reach: &Reach) -> u64
+fn late_by(profile: &Profile, x: &Sending, y: &Sending, same: bool, reach: &Reach) -> NodeSet
     requires start { x.now.start ≤ 2 ^ 46 }
     requires same { same ≡ repetition x.now y.now }
     ensures { (lines : Lines) (nodes : List ℕ) → IsMask (λ v. arrival profile.now lines v y.now) nodes reach.now.to
@@ -182,7 +173,7 @@ fn late_by(profile: &Profile, x: &Sending, y: &Sending, same: bool, reach: &Reac
     if is_late(profile, x, y, same) {
         reach.to
     } else {
-        0
+        NodeSet::EMPTY
     }
 }
 
@@ -196,12 +187,16 @@ fn is_late(profile: &Profile, x: &Sending, y: &Sending, same: bool) -> bool
 }
 
 // The nodes to which y comes, if it has another packet than x.
-fn mixed_by(x: &Sending, y: &Sending, same: bool, reach: &Reach) -> u64
+fn mixed_by(x: &Sending, y: &Sending, same: bool, reach: &Reach) -> NodeSet
     requires { same ≡ repetition x.now y.now }
     ensures { (p : Numbers) (lines : Lines) (nodes : List ℕ) → IsMask (λ v. arrival p lines v y.now) nodes reach.now.to
         → IsMask (λ v. differs p lines v x.now y.now) nodes result }
 {
-    if is_other(x, y, same) { reach.to } else { 0 }
+    if is_other(x, y, same) {
+        reach.to
+    } else {
+        NodeSet::EMPTY
+    }
 }
 
 // Whether y has another packet on the channel of x while x is on the air.
@@ -212,74 +207,74 @@ fn is_other(x: &Sending, y: &Sending, same: bool) -> bool
     !same && meets_on(x, y)
 }
 
-// The nodes of the mask that capture no sender of the packet of x.
+// Those of the nodes that capture no sender of the packet of x.
 fn lost(
     profile: &Profile,
     trace: &Trace,
     nodes: &[NodeId],
     near: &[Sending],
     x: &Sending,
-    mixed: u64,
-) -> u64
+    mixed: NodeSet,
+) -> NodeSet
     requires nodes { AreNodes nodes.now }
     requires start { x.now.start ≤ 2 ^ 46 }
     requires starts { All (λ y. y.start ≤ 2 ^ 46) near.now }
     ensures { (m : ℕ → Bool) → IsMask m nodes.now mixed → IsMask (λ v. m v && not (captured_by profile.now trace.now.lines v x.now near.now
         (captured trace.now.lines (frame_of_sending profile.now x.now) (slot_of_sending x.now) (counter_of_sending x.now) v))) nodes.now result }
 {
-    if mixed == 0 {
-        return 0;
+    if mixed.is_empty() {
+        return NodeSet::EMPTY;
     }
-    let mut mask = 0u64;
+    let mut places = NodeSet::EMPTY;
     for (i, node) in nodes.iter().enumerate() {
         if is_lost(profile, trace, near, x, mixed, i as u8, *node) {
-            mask |= 1 << i;
+            places = places.with(i as u8);
         }
     }
-    mask
+    places
 }
 
-// Whether the node at that place is in the mask, and the trace names no sender for it from which the packet of x comes.
+// Whether the node at that place is one of these, and the trace names no sender for it from which the packet of x comes.
 fn is_lost(
     profile: &Profile,
     trace: &Trace,
     near: &[Sending],
     x: &Sending,
-    mixed: u64,
+    mixed: NodeSet,
     place: u8,
     node: NodeId,
 ) -> bool
-    requires place { place < 64 }
+    requires place { place < MOST_NODES }
     requires start { x.now.start ≤ 2 ^ 46 }
     requires starts { All (λ y. y.start ≤ 2 ^ 46) near.now }
     ensures { result ≡ ((bit_at mixed place == 1) && not (captured_by profile.now trace.now.lines node x.now near.now
         (captured trace.now.lines (frame_of_sending profile.now x.now) (slot_of_sending x.now) (counter_of_sending x.now) node))) }
 {
-    has_bit(mixed, place) && !is_captured(profile, trace, near, node, x)
+    mixed.has(place) && !is_captured(profile, trace, near, node, x)
 }
 
 // The nodes of the seal to which a link passes from the sender of y, the node at that place.
-fn reached_from(profile: &Profile, trace: &Trace, y: &Sending, place: u8) -> u64
+fn reached_from(profile: &Profile, trace: &Trace, y: &Sending, place: u8) -> NodeSet
     requires place { place < length trace.now.nodes }
     requires sender { slice_index trace.now.nodes place ≡ y.now.node }
     requires start { y.now.start ≤ 2 ^ 46 }
     ensures { IsMask (λ v. arrival profile.now trace.now.lines v y.now) trace.now.nodes result }
 {
     let frame = (y.start / profile.frame()) as u32;
-    trace.to_mask(frame, y.packet.slot(), y.packet.counter(), place)
+    NodeSet::of_word(trace.to_mask(frame, y.packet.slot(), y.packet.counter(), place))
 }
 
 // The nodes to which a link passes from the sender of y, whoever that is.
-fn reached_by_other(profile: &Profile, trace: &Trace, nodes: &[NodeId], y: &Sending) -> u64
+fn reached_by_other(profile: &Profile, trace: &Trace, nodes: &[NodeId], y: &Sending) -> NodeSet
     requires nodes { AreNodes nodes.now }
     requires start { y.now.start ≤ 2 ^ 46 }
     ensures { IsMask (λ v. arrival profile.now trace.now.lines v y.now) nodes.now result }
 {
-    let mut mask = 0u64;
+    let mut places = NodeSet::EMPTY;
     for (i, node) in nodes.iter().enumerate() {
         if arrives(profile, trace, *node, y) {
-            mask |= 1 << i;
+            places = places.with(i as u8);
         }
     }
-    mask
+    places
 }

@@ -1,16 +1,22 @@
 //! The nodes whose transmissions can still matter.
 
 ghost use Rattle.std.specs.Prelude.{◌≡◌, ◌<◌, true, false};
-ghost use Rattle.radio_model.specs.Recent.{no_recent, IsRecentAfter};
+ghost use Rattle.lwb_base.specs.declared.limits.TheConstants.{MOST_NODES};
+ghost use Rattle.radio_model.specs.Recent.{no_recent, is_joined, is_close_by, is_of, IsRecentAfter};
 
-use link_trace::bits::with_bit;
+use crate::mark::Origin;
+use link_trace::NodeSet;
 
-/// The nodes whose transmissions may overlap one that still runs, by the bits of their places, and when all that was sent is
-/// over. What a node without its bit sent was over before any that runs began.
+/// The nodes whose transmissions may overlap one that still runs, by their places, and when all that was sent is over. What a node
+/// that is not among them sent was over before `since`, and before any that runs began. Where each of them has sent but once since
+/// then, and all of them packets of one origin, that is known too, with the tick at which the newest began.
 #[derive(Clone, Copy)]
 pub struct Recent {
-    pub places: u64,
+    pub places: NodeSet,
     pub latest: u64,
+    pub since: u64,
+    pub newest: u64,
+    pub origin: Option<Origin>,
 }
 
 impl Recent {
@@ -19,33 +25,83 @@ impl Recent {
         ensures { result ≡ no_recent }
     {
         Recent {
-            places: 0,
+            places: NodeSet::EMPTY,
             latest: 0,
+            since: 0,
+            newest: 0,
+            origin: None,
         }
     }
 
-    /// Another transmission may begin at that place.
-    pub(crate) fn next(self, starts: bool, place: u8, start: u64, end: u64) -> Recent
-        requires { place < 64 }
-        ensures starts { starts ≡ true → IsRecentAfter place start end self result }
+    /// Another transmission may begin at that place, of a packet with that origin.
+    pub(crate) fn next(
+        self,
+        starts: bool,
+        place: u8,
+        start: u64,
+        end: u64,
+        origin: Origin,
+    ) -> Recent
+        requires { place < MOST_NODES }
+        ensures starts { starts ≡ true → IsRecentAfter place start end origin self result }
         ensures stays { starts ≡ false → result ≡ self }
     {
         if starts {
-            self.with(place, start, end)
+            self.with(place, start, end, origin)
         } else {
             self
         }
     }
 
     // Where all others were over before, only this one can matter from now on.
-    fn with(self, place: u8, start: u64, end: u64) -> Recent
-        requires { place < 64 }
-        ensures { IsRecentAfter place start end self result }
+    fn with(self, place: u8, start: u64, end: u64, origin: Origin) -> Recent
+        requires { place < MOST_NODES }
+        ensures { IsRecentAfter place start end origin self result }
     {
-        let others = if self.latest < start { 0 } else { self.places };
-        Recent {
-            places: with_bit(others, place),
-            latest: self.latest.max(end),
+        if self.latest < start {
+            return Recent {
+                places: NodeSet::EMPTY.with(place),
+                latest: self.latest.max(end),
+                since: start,
+                newest: start,
+                origin: Some(origin),
+            };
         }
+        Recent {
+            places: self.places.with(place),
+            latest: self.latest.max(end),
+            since: self.since,
+            newest: start,
+            origin: if self.is_joined(place, origin) {
+                self.origin
+            } else {
+                None
+            },
+        }
+    }
+
+    // Whether that place is a new one, and the origin is that of all others.
+    fn is_joined(&self, place: u8, origin: Origin) -> bool
+        requires { place < MOST_NODES }
+        ensures { result ≡ is_joined self.now place origin }
+    {
+        !self.places.has(place) && is_of(self.origin, origin)
+    }
+
+    /// Whether all of them have sent packets of that origin alone, from the tick `opens` on and not after `latest`.
+    pub(crate) fn is_close(&self, origin: Origin, opens: u64, latest: u64) -> bool
+        ensures { result ≡ is_close_by self.now origin opens latest }
+    {
+        is_of(self.origin, origin) && opens <= self.since && self.newest <= latest
+    }
+}
+
+// Whether there is an origin, and it is the other one.
+fn is_of(one: Option<Origin>, other: Origin) -> bool
+    ensures { result ≡ is_of one other }
+{
+    match one {
+        Some(one) => one.is_same(other),
+        None => false,
     }
 }

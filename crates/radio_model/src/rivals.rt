@@ -8,7 +8,7 @@ ghost use Rattle.radio_model.specs.Meetings.{key_of, IsInOneFrame, rival_to as r
 use crate::meeting::{comes_in_time, meets_on, same_packet};
 use crate::sending::Sending;
 use crate::station::Station;
-use link_trace::Links;
+use link_trace::{Links, NodeSet};
 use lwb_base::{NodeId, Profile};
 
 /// The place of a transmission in a trace: the frame of its start, and the slot and the counter of its packet.
@@ -91,10 +91,10 @@ pub fn first_after(station: &Station, start: u64) -> usize
     0
 }
 
-/// The nodes to which a link passes at the key from the node at that place, each by the bit of its place.
-pub fn reach_of<M: Links>(links: &M, key: Key, place: u8) -> u64
+/// The nodes to which a link passes at the key from the node at that place.
+pub fn reach_of<M: Links>(links: &M, key: Key, place: u8) -> NodeSet
     requires { place < length (M.nodes links.now) }
     ensures { IsMask (λ v. passes_at (M.lines links.now) key (slice_index (M.nodes links.now) place) v) (M.nodes links.now) result }
 {
-    links.to_mask(key.frame, key.slot, key.counter, place)
+    NodeSet::of_word(links.to_mask(key.frame, key.slot, key.counter, place))
 }

@@ -84,11 +84,13 @@ impl Station {
             Some(tuned) => tuned.rank == rank && tuned.since <= start,
             None => false,
         };
-        let went_until_now = match self.tuning.last {
+        if goes_on {
+            return true;
+        }
+        match self.tuning.last {
             Some(last) => last.rank == rank && last.since <= start && t <= last.until,
             None => false,
-        };
-        goes_on || went_until_now
+        }
     }
 
     // All that ended is over by the end of x, and the newest ended last, so this one tells.

@@ -8,7 +8,7 @@ ghost use Rattle.radio_model.specs.Reaches.{AreReaches, AreSearchable, IsReceive
 use crate::near::{longest, near_places};
 use crate::receivers::{Reach, reach_of, receivers};
 use crate::sending::Sending;
-use link_trace::Trace;
+use link_trace::{NodeSet, Trace};
 use lwb_base::{Memory, NodeId, Profile};
 use std::alloc::Global;
 use std::marker::Model;
@@ -69,8 +69,14 @@ impl Transmissions {
         sent
     }
 
-    /// The nodes that receive x, one of these, if they are tuned to it: a mask of their places.
-    pub fn receivers(&self, profile: &Profile, trace: &Trace, nodes: &[NodeId], x: &Sending) -> u64
+    /// The nodes that receive x, one of these, if they are tuned to it.
+    pub fn receivers(
+        &self,
+        profile: &Profile,
+        trace: &Trace,
+        nodes: &[NodeId],
+        x: &Sending,
+    ) -> NodeSet
         requires nodes { AreNodes nodes.now }
         requires sealed { nodes.now ≡ trace.now.nodes }
         requires searchable { AreSearchable profile.now trace.now.lines nodes.now self.now }

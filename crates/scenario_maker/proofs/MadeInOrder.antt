@@ -11,7 +11,7 @@ use Rattle.link_trace.specs.Order.{by_link, by_loss, by_cut, by_capture}
 use Rattle.rand_pcg.specs.Lcg.{Lcg}
 use Rattle.scenario_text.specs.FloodParts.{knows}
 use Rattle.scenario_text.specs.Canonical.{canonical, IsSaid}
-use Rattle.scenario_text.specs.PartsInOrder.{IsInOrder}
+use Rattle.scenario_text.specs.PartsInOrder.{IsInOrder, script_lines}
 use Rattle.scenario_text.specs.ScenarioFacts.{AreEnds, IsStepOf}
 use Rattle.scenario_text.specs.ScenarioGrammar.{scenario_of}
 use Rattle.scenario_text.specs.ScenarioParts.{ScenarioParts}
@@ -95,6 +95,14 @@ lines_few n frames rates script losses size is few_script few_losses =
 few_node_frames : (g : Lcg) (n frames : ℕ) → IsSize n frames → length (map (node_line g) (all_nodes n)) * frames ≤ RUN_NODE_FRAMES
 few_node_frames g n frames size = let count = length-map-range_with_len (node_line g) 1 n in rw count size.product
 
+few_script_lines : (seed n frames : ℕ) → IsSize n frames → script_lines (made seed n frames) ≤ MOST_SCRIPT_LINES
+unfolding made
+few_script_lines seed n frames size =
+    let g = seeded seed in
+    let s : ScenarioParts = made seed n frames in
+    lines_few n frames (length s.rates) (length s.script) (length s.trace.losses) size (length-map-range_with_len (rate_line g) 1 n)
+    (few_in_script (later (5 * n - 1) g) n frames) (losses_few (later (6 * n - 2) g) n frames)
+
 pub in_order : (seed n frames : ℕ) → IsSize n frames → IsInOrder (made seed n frames)
 unfolding made
 in_order seed n frames size =
@@ -133,8 +141,7 @@ in_order seed n frames size =
       script = lines_in_range s (later (5 * n - 1) g) n frames size.nodes.0 size.some_frames.0 refl (omega arith) knows_all;
       script_ascends = script_ascends (later (5 * n - 1) g) n frames;
       payload_bytes = bytes_in_range (later (5 * n - 1) g) n frames size.some_frames.1;
-      few_lines = lines_few n frames (length s.rates) (length s.script) (length s.trace.losses) size (length-map-range_with_len (rate_line g) 1 n)
-          (few_in_script (later (5 * n - 1) g) n frames) (losses_few (later (6 * n - 2) g) n frames);
+      few_lines = le_trans (few_script_lines seed n frames size) (omega arith);
       few_boots = λ v. few_boots (later (5 * n - 1) g) n frames v size.nodes.1;
     }
 
@@ -145,4 +152,4 @@ pub is_said_to_run : (seed n frames : ℕ) → IsSize n frames → scenario_of (
 unfolding made
 is_said_to_run seed n frames size =
     (said_to_run (canonical (made seed n frames)) (made seed n frames)).1
-    (is_said seed n frames size, few_node_frames (seeded seed) n frames size)
+    (is_said seed n frames size, few_node_frames (seeded seed) n frames size, few_script_lines seed n frames size)

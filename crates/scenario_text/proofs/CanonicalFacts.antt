@@ -5,7 +5,7 @@ use Rattle.std.specs.Prelude.{slice_set}
 use Rattle.std.specs.Int.RustNames.{unsigned_abs}
 use Rattle.std.specs.List.{AllByRecursion, slice_index, slice_index_or}
 use Rattle.std.specs.declared.cmp.Ordering.TheVariants.{Less}
-use Rattle.lwb_base.specs.declared.limits.TheConstants.{MOST_FRAMES, MOST_NODES, MOST_RANKS, MOST_SCRIPT_LINES}
+use Rattle.lwb_base.specs.declared.limits.TheConstants.{MOST_FRAMES, MOST_NODES, MOST_RANKS}
 use Rattle.lwb_base.specs.Profile.{Numbers, IsProfile}
 use Rattle.link_trace.specs.Order.{by_link, by_loss, by_cut, by_capture}
 use Rattle.link_trace.specs.Passes.{Lines}
@@ -19,7 +19,7 @@ use Rattle.scenario_text.specs.FloodDrafts.{Climbs, Rises, RatesBeginLater}
 use Rattle.scenario_text.specs.Network.{is_id, rates_by_node}
 use Rattle.scenario_text.specs.ScenarioGrammar.{Scenario, last_tick, line_in_range, line_knows_ids}
 use Rattle.scenario_text.specs.ScenarioParts.{ScenarioParts}
-use Rattle.scenario_text.specs.declared.limits.TheConstants.{BUS_NODE_FRAMES}
+use Rattle.scenario_text.specs.declared.limits.TheConstants.{BUS_NODE_FRAMES, BUS_SCRIPT_LINES}
 use Rattle.scenario_text.specs.declared.lines.NodeLine.{NodeLine}
 use Rattle.scenario_text.specs.declared.lines.RateLine.{RateLine}
 use Rattle.scenario_text.specs.declared.network_line.NetworkLine.TheVariants.{Link}
@@ -63,7 +63,7 @@ Boots w (l ∷ ls) = (can_boot w l.node l.act ≡ true) × Boots (after_act w l.
 -- the draft of these lists, with this many script lines
 abbrev pub mid : ScenarioParts → List NodeLine → List RateLine → List ℕ → Lines → List ScriptLine → Power → ℕ → Scenario
 mid s ns rs hs t ls w n = record {
-  network = record { sends = Some s.sends; nodes = ns; rates = rs; trace = t; scripted = n };
+  network = record { sends = Some s.sends; nodes = ns; rates = rs; trace = t; scripted = n; most = BUS_SCRIPT_LINES };
   first = false;
   after_two = false;
   profile = s.profile;
@@ -128,7 +128,7 @@ pub record IsHost (ns : List NodeLine) (h : ℕ) : Type 0 where
 -- a draft by which the numbers and ids of lines are judged
 abbrev pub judged : Numbers → Option ℕ → List NodeLine → Scenario
 judged p frames ns = record {
-  network = record { sends = None; nodes = ns; rates = []; trace = no_lines; scripted = 0 };
+  network = record { sends = None; nodes = ns; rates = []; trace = no_lines; scripted = 0; most = 0 };
   first = false;
   after_two = false;
   profile = p;
@@ -168,5 +168,5 @@ pub record KeepsRules (s : ScenarioParts) : Type 0 where
   pub cuts_climb : Climbs (λ a b. by_cut a b ≡ Less) s.trace.cuts
   pub captures : AllByRecursion (λ l. Fits (judge s) (said_capture l)) s.trace.captures
   pub captures_climb : Climbs (λ a b. by_capture a b ≡ Less) s.trace.captures
-  pub scripted : length s.rates + length s.script + length s.trace.losses + length s.trace.cuts + length s.trace.captures ≤ MOST_SCRIPT_LINES
+  pub scripted : length s.rates + length s.script + length s.trace.losses + length s.trace.cuts + length s.trace.captures ≤ BUS_SCRIPT_LINES
   pub small : length s.nodes * s.frames ≤ BUS_NODE_FRAMES

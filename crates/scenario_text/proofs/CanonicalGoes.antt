@@ -7,7 +7,7 @@ use Rattle.std.specs.List.{AllByRecursion, list_any}
 use Rattle.std.specs.Option.{option_map_or}
 use Rattle.std.specs.Fmt.{signed_decimal}
 use Rattle.std.specs.declared.cmp.Ordering.TheVariants.{Less}
-use Rattle.lwb_base.specs.declared.limits.TheConstants.{MOST_SCRIPT_LINES}
+use Rattle.scenario_text.specs.declared.limits.TheConstants.{BUS_SCRIPT_LINES}
 use Rattle.lwb_base.specs.Profile.{Numbers, IsProfile}
 use Rattle.link_trace.proofs.Orders.{tells_link}
 use Rattle.link_trace.specs.Order.{by_link}
@@ -110,7 +110,7 @@ step_rate s is rs r qs split =
       known = rate.known;
       order = above_last r rs r.node refl before;
       fresh = refl;
-      room = lt-ltb (length rs) MOST_SCRIPT_LINES (omega (arith, long, few));
+      room = lt-ltb (length rs) BUS_SCRIPT_LINES (omega (arith, long, few));
     })
     (ap (λ (z : _). mid s s.nodes (rs ++ record { node = r.node; from = r.from; ppm = z } ∷ []) [] no_lines [] no_power (length rs + 1)) reads.back
     ∙ ap (λ (n : ℕ). mid s s.nodes (rs ++ r ∷ []) [] no_lines [] no_power n) (sym (length_push rs r)))

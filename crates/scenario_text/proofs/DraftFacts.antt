@@ -9,7 +9,7 @@ use Rattle.std.specs.Option.{option_map_or}
 use Rattle.std.specs.Ordering.{is_lt, is_eq, ordering_reverse}
 use Rattle.std.specs.declared.cmp.Ordering.{Ordering}
 use Rattle.std.specs.declared.cmp.Ordering.TheVariants.{Less, Equal, Greater}
-use Rattle.lwb_base.specs.declared.limits.TheConstants.{MOST_FRAMES, MOST_RANKS, MOST_SCRIPT_LINES}
+use Rattle.lwb_base.specs.declared.limits.TheConstants.{MOST_FRAMES, MOST_RANKS}
 use Rattle.lwb_base.specs.Profile.{Numbers, IsProfile, contended}
 use Rattle.link_trace.specs.Order.{with_line, by_link, by_loss, by_cut, by_capture}
 use Rattle.link_trace.specs.Passes.{Lines}
@@ -17,6 +17,7 @@ use Rattle.scenario_text.specs.FloodParts.{knows}
 use Rattle.scenario_text.specs.FloodDrafts.{Climbs, IsNetwork}
 use Rattle.scenario_text.specs.Network.{is_id}
 use Rattle.scenario_text.specs.ScenarioGrammar.{Scenario, no_scenario, last_tick, last_script_line, line_in_range, line_knows_ids}
+use Rattle.scenario_text.specs.declared.limits.TheConstants.{BUS_SCRIPT_LINES}
 use Rattle.scenario_text.specs.declared.lines.NodeLine.{NodeLine}
 use Rattle.scenario_text.specs.declared.scenario_line.ScenarioLine.{ScenarioLine}
 use Rattle.scenario_text.specs.declared.scenario_line.ScenarioLine.TheVariants as line
@@ -53,12 +54,16 @@ pub record IsUnframed (ls : List ScriptLine) (t : Lines) : Type 0 where
   pub cuts : t.cuts ≡ []
   pub captures : t.captures ≡ []
 
+-- no line, over the long horizon
+abbrev pub nothing : Scenario
+nothing = no_scenario BUS_SCRIPT_LINES
+
 abbrev pub after_top : Numbers → Bool → Scenario
-after_top p b = record no_scenario { first = false; after_two = b; profile = p }
+after_top p b = record nothing { first = false; after_two = b; profile = p }
 
 pub record IsFine (d : Scenario) : Type 0 where
   pub network : IsNetwork d.network
-  pub first : d.first ≡ true → d ≡ no_scenario
+  pub first : d.first ≡ true → d ≡ nothing
   pub second : d.after_two ≡ true → d ≡ after_top (contended 0) true
   pub profile : IsProfile d.profile
   pub frames : IfSome d.frames (λ f. (1 ≤ f) × (f ≤ MOST_FRAMES))
@@ -71,7 +76,8 @@ pub record IsFine (d : Scenario) : Type 0 where
   pub power : record { on = d.on; boots = d.boots } ≡ power_after no_power d.script
   pub counted : d.network.scripted ≡ length d.network.rates + length d.script + length d.network.trace.losses + length d.network.trace.cuts
       + length d.network.trace.captures
-  pub few : d.network.scripted ≤ MOST_SCRIPT_LINES
+  pub few : d.network.scripted ≤ BUS_SCRIPT_LINES
+  pub limit : d.network.most ≡ BUS_SCRIPT_LINES
 
 -- a known node stays so
 abbrev pub KnowsMore : List NodeLine → List NodeLine → Type 0

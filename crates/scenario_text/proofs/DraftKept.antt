@@ -64,6 +64,7 @@ host_fine d r i fine a =
       power = fine.power;
       counted = fine.counted;
       few = fine.few;
+      limit = fine.limit;
     }
 
 -- the number of frames
@@ -104,6 +105,7 @@ frames_fine d f fine a =
       power = fine.power;
       counted = fine.counted;
       few = fine.few;
+      limit = fine.limit;
     }
   where
     none_is : (o : Option ℕ) → is_none o ≡ true → o ≡ None

@@ -2,8 +2,7 @@
 use Rattle.std.proofs.Common.{◌≡◌, Bool, true, false, if◌then◌else◌, refl, arith, inl, inr}
 use Rattle.std.proofs.lemmas.Bool.{false≢true}
 use Rattle.lwb_base.specs.Profile.{Numbers, IsProfile, one, contended}
-use Rattle.scenario_text.specs.ScenarioGrammar.{no_scenario}
-use Rattle.scenario_text.proofs.DraftFacts.{after_top, IsFine}
+use Rattle.scenario_text.proofs.DraftFacts.{nothing, after_top, IsFine}
 
 -- the first lines
 pub fine_top : (p : Numbers) (b : Bool) → IsProfile p → (b ≡ true → after_top p b ≡ after_top (contended 0) true) → IsFine (after_top p b)
@@ -22,9 +21,10 @@ fine_top p b is two = record {
   power = refl;
   counted = refl;
   few = omega arith;
+  limit = refl;
 }
 
-pub fine_first : IsFine no_scenario
+pub fine_first : IsFine nothing
 fine_first = record {
   network = record { sends = tt; few_nodes = omega arith; rises = tt; offsets = tt; follows = tt; rates = tt };
   first = λ is. refl;
@@ -40,6 +40,7 @@ fine_first = record {
   power = refl;
   counted = refl;
   few = omega arith;
+  limit = refl;
 }
 
 pub profile_fine : (b : Bool) → IsFine (after_top (if b then contended 0 else one) b)

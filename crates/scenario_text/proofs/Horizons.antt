@@ -1,18 +1,23 @@
--- What a text says with some bound on nodes times frames, and with another.
+-- What a text says within some limits, and within others.
 use Rattle.std.proofs.Common.{◌≡◌, ℕ, ◌+◌, ◌*◌, ◌≤◌, List, Bool, true, false, ◌==◌, nat_le, if◌then◌else◌, Some, None, Option, Ok, Err, Result, IfOk}
 use Rattle.std.proofs.Common.{◌↔◌, length, refl, sym, ◌∙◌, ap, subst, arith}
 use Rattle.std.proofs.Math.Nat.{le_trans}
 use Rattle.std.proofs.lemmas.Bool.{cond-true, leb-true, le-leb}
 use Rattle.std.specs.Str.Lines.{lines}
-use Rattle.text_readers.specs.Faults.{draft_after_lines, in_line, ◌>>=◌}
-use Rattle.text_readers.specs.Reading.{draft_after_line}
+use Rattle.text_readers.specs.Faults.{in_line, ◌>>=◌}
 use Rattle.text_readers.specs.declared.fault.FaultKind.{FaultKind}
 use Rattle.text_readers.specs.declared.fault.FaultKind.TheVariants.{Missing, TooBig}
+use Rattle.lwb_base.specs.declared.limits.TheConstants.{MOST_SCRIPT_LINES}
+use Rattle.scenario_text.specs.Canonical.{canonical}
 use Rattle.scenario_text.specs.Network.{Parts, network_parts}
-use Rattle.scenario_text.specs.ScenarioGrammar.{Scenario, no_scenario, scenario_after_words, finished_parts, whole_within, if_small}
-use Rattle.scenario_text.specs.ScenarioGrammar.{scenario_of_lines, scenario_within, scenario_of, long_scenario_of, IsScenario}
+use Rattle.scenario_text.specs.PartsInOrder.{script_lines}
+use Rattle.scenario_text.specs.ScenarioGrammar.{Scenario, no_scenario, finished_parts, whole_within, if_small, run_limits, long_limits}
+use Rattle.scenario_text.specs.ScenarioGrammar.{scenario_of_lines, scenario_of, long_scenario_of, IsScenario}
 use Rattle.scenario_text.specs.ScenarioParts.{ScenarioParts}
-use Rattle.scenario_text.specs.declared.limits.TheConstants.{RUN_NODE_FRAMES, BUS_NODE_FRAMES}
+use Rattle.scenario_text.specs.declared.limits.TheConstants.{RUN_NODE_FRAMES, BUS_NODE_FRAMES, BUS_SCRIPT_LINES}
+use Rattle.scenario_text.specs.declared.limits.Limits.{Limits}
+use Rattle.scenario_text.proofs.SaidParts.{fine_lines, finished_counted, says_again}
+use Rattle.scenario_text.proofs.ScriptRoom.{after_all, few_script_lines, limited, said_there, whole_there}
 
 -- it has few enough nodes and frames, and is said with each bound that it is within
 abbrev SaidWithin : {E : Type 0} → (ℕ → Result ScenarioParts E) → ℕ → ScenarioParts → Type 0
@@ -55,32 +60,85 @@ finished_within most d (Some p) (Some f) s is = by_hosts (length d.hosts == 0) i
     by_hosts true is = cc
     by_hosts false is = small_within most x s is
 
-lines_within : (most : ℕ) (ls : List (List ℕ)) (s : ScenarioParts) → scenario_of_lines most ls ≡ Ok s → SaidWithin (λ n. scenario_of_lines n ls) most s
-lines_within most ls s is = by_lines (draft_after_lines (draft_after_line scenario_after_words) 1 no_scenario ls) is
-  where
-    at_end : (q : Result ScenarioParts FaultKind) → in_line (length ls + 1) q ≡ Ok s → q ≡ Ok s
-    at_end (Err k) is = cc
-    at_end (Ok x) is = ap Ok (subst (λ (r : Result ScenarioParts (ℕ × FaultKind)). IfOk r (λ y. x ≡ y)) is refl)
+at_end : (n : ℕ) (q : Result ScenarioParts FaultKind) (s : ScenarioParts) → in_line n q ≡ Ok s → q ≡ Ok s
+at_end n (Err k) s is = cc
+at_end n (Ok x) s is = ap Ok (subst (λ (r : Result ScenarioParts (ℕ × FaultKind)). IfOk r (λ y. x ≡ y)) is refl)
 
-    by_lines : (r : Result Scenario (ℕ × FaultKind)) → (r >>= (λ d. in_line (length ls + 1) (whole_within most d))) ≡ Ok s
-        → SaidWithin (λ n. r >>= (λ d. in_line (length ls + 1) (whole_within n d))) most s
-    by_lines (Err k) is = cc
-    by_lines (Ok d) is =
-        let within = finished_within most d (network_parts d.network d.network.sends) d.frames s (at_end (whole_within most d) is) in
-        (within.0, λ other below. ap (λ (r : Result ScenarioParts FaultKind). in_line (length ls + 1) r) (within.1 other below))
+-- what some limits let through, others let through that it is within
+module _ (a b : Limits) (ls : List (List ℕ)) (s : ScenarioParts) where
+  abbrev ended : Limits → Scenario → Result ScenarioParts (ℕ × FaultKind)
+  ended l d = in_line (length ls + 1) (whole_within l.node_frames d)
 
--- a higher bound lets all through that a lower one does
-pub longer : (most other : ℕ) (bytes : List ℕ) (s : ScenarioParts) → most ≤ other → scenario_within most bytes ≡ Ok s → scenario_within other bytes ≡ Ok s
-longer most other bytes s more is = let within = lines_within most (lines bytes) s is in within.1 other (le_trans within.0 more)
+  -- it is what a draft says at its end, of which there is one with the other limit too, unless there are more script lines
+  record IsSaid : Type 0 where
+    d : Scenario
+    small : length s.nodes * s.frames ≤ a.node_frames
+    few : d.network.scripted ≤ a.script_lines
+    whole : (n : ℕ) → length s.nodes * s.frames ≤ n → whole_within n d ≡ Ok s
+    read : after_all 1 (no_scenario a.script_lines) ls ≡ Ok d
+
+  said : scenario_of_lines a ls ≡ Ok s → IsSaid
+  said is = by_lines (after_all 1 (no_scenario a.script_lines) ls) refl is
+    where
+      by_lines : (r : Result Scenario (ℕ × FaultKind)) → after_all 1 (no_scenario a.script_lines) ls ≡ r → (r >>= ended a) ≡ Ok s → IsSaid
+      by_lines (Err k) read is = cc
+      by_lines (Ok d) read is =
+          let within = finished_within a.node_frames d (network_parts d.network d.network.sends) d.frames s
+          (at_end (length ls + 1) (whole_within a.node_frames d) s is) in
+          record { d = d; small = within.0; few = few_script_lines a.script_lines d ls read; whole = within.1; read = read }
+
+  -- that draft, seen over the long horizon
+  said_counted : (is : IsSaid) → length s.nodes * s.frames ≤ BUS_NODE_FRAMES → is.d.network.scripted ≤ BUS_SCRIPT_LINES
+      → script_lines s ≡ is.d.network.scripted
+  said_counted is small few =
+      let there = said_there a.script_lines BUS_SCRIPT_LINES is.d ls is.read few in
+      finished_counted (limited BUS_SCRIPT_LINES is.d) s (fine_lines (limited BUS_SCRIPT_LINES is.d) ls there)
+      (whole_there BUS_NODE_FRAMES BUS_SCRIPT_LINES is.d ∙ is.whole BUS_NODE_FRAMES small)
+
+  said_with : (is : IsSaid) → length s.nodes * s.frames ≤ b.node_frames → is.d.network.scripted ≤ b.script_lines → scenario_of_lines b ls ≡ Ok s
+  said_with is small few =
+      ap (λ (r : Result Scenario (ℕ × FaultKind)). r >>= ended b) (said_there a.script_lines b.script_lines is.d ls is.read few)
+      ∙ ap (λ (r : Result ScenarioParts FaultKind). in_line (length ls + 1) r)
+      (whole_there b.node_frames b.script_lines is.d ∙ is.whole b.node_frames small)
+
+-- a text within these limits says the same over the long horizon, and is within them
+module _ (l : Limits) (ls : List (List ℕ)) (s : ScenarioParts) (frames : l.node_frames ≤ BUS_NODE_FRAMES) (lines : l.script_lines ≤ BUS_SCRIPT_LINES)
+    (is : scenario_of_lines l ls ≡ Ok s) where
+  draft : IsSaid l long_limits ls s
+  draft = said l long_limits ls s is
+
+  pub said_long : scenario_of_lines long_limits ls ≡ Ok s
+  said_long = said_with l long_limits ls s draft (le_trans draft.small frames) (le_trans draft.few lines)
+
+  pub within_limits : (length s.nodes * s.frames ≤ l.node_frames) × (script_lines s ≤ l.script_lines)
+  within_limits =
+      let counted = said_counted l long_limits ls s draft (le_trans draft.small frames) (le_trans draft.few lines) in
+      let few = draft.few in
+      (draft.small, omega (arith, counted, few))
+
+-- and what is said there is said within limits that it is within
+pub said_within : (l : Limits) (ls : List (List ℕ)) (s : ScenarioParts) → scenario_of_lines long_limits ls ≡ Ok s
+    → length s.nodes * s.frames ≤ l.node_frames → script_lines s ≤ l.script_lines → scenario_of_lines l ls ≡ Ok s
+said_within l ls s is small few =
+    let draft = said long_limits l ls s is in
+    let counted = said_counted long_limits l ls s draft draft.small draft.few in
+    said_with long_limits l ls s draft small (omega (arith, counted, few))
 
 -- what is said to be run is said over the long horizon, and what is said there is said to be run if it is small enough
 pub said_to_run : (bytes : List ℕ) (s : ScenarioParts) → (scenario_of bytes ≡ Ok s) ↔ ((long_scenario_of bytes ≡ Ok s)
-    × (length s.nodes * s.frames ≤ RUN_NODE_FRAMES))
+    × (length s.nodes * s.frames ≤ RUN_NODE_FRAMES) × (script_lines s ≤ MOST_SCRIPT_LINES))
 said_to_run bytes s = (
-  λ is. (longer RUN_NODE_FRAMES BUS_NODE_FRAMES bytes s (omega arith) is, (lines_within RUN_NODE_FRAMES (lines bytes) s is).0),
-  λ both. (lines_within BUS_NODE_FRAMES (lines bytes) s both.0).1 RUN_NODE_FRAMES both.1,
+  λ is. (
+      let within = within_limits run_limits (lines bytes) s (omega arith) (omega arith) is in
+      (said_long run_limits (lines bytes) s (omega arith) (omega arith) is, within.0, within.1)
+      ),
+  λ all. said_within run_limits (lines bytes) s all.0 all.1 all.2,
 )
 
 -- what is read to be run is a scenario
 pub run_is_scenario : (bytes : List ℕ) (s : ScenarioParts) → scenario_of bytes ≡ Ok s → IsScenario s
 run_is_scenario bytes s is = (bytes, ((said_to_run bytes s).0 is).0)
+
+pub says_again_to_run : (s : ScenarioParts) (text : List ℕ) → text ≡ canonical s → IsScenario s → length s.nodes * s.frames ≤ RUN_NODE_FRAMES
+    → script_lines s ≤ MOST_SCRIPT_LINES → scenario_of text ≡ Ok s
+says_again_to_run s text is said small few = (said_to_run text s).1 (says_again s text is said, small, few)

@@ -2,6 +2,7 @@
 pub mod DraftFacts
 pub mod EachPair
 pub mod SoundScenarios
+pub mod SoundOver
 pub mod OrderedParts
 pub mod OrderedExample
 pub mod ScenarioExamples
@@ -37,3 +38,4 @@ pub mod DraftKept
 pub mod RatesInTurn
 pub mod SaidParts
 pub mod RatesInOrder
+pub mod ScriptRoom

@@ -70,14 +70,14 @@ no_fault a b c d e p q r s t =
     ∙ cond-true d (first_fault ((e, TooMany) ∷ [])) (Some Twice) s
     ∙ cond-true e None (Some TooMany) t
 
+pub allowed_back : (d : Scenario) (l : ScenarioLine) → Allowed d l → line_fault d l ≡ None
+allowed_back d l a =
+    no_fault (line_in_range d l) (line_knows_ids d l) (line_in_order d l) (line_is_new d l) (line_has_room d l) a.range a.known a.order a.fresh a.room
+
 pub step : (d : Scenario) (ws : List (List ℕ)) (l : ScenarioLine) (e : Scenario) → Says ws l → Allowed d l → with_scenario_line d l ≡ e → Step d ws e
 step d ws l e says allowed is = record {
   are_words = says.are_words;
-  after =
-      said d ws l says
-      (no_fault (line_in_range d l) (line_knows_ids d l) (line_in_order d l) (line_is_new d l)
-      (line_has_room d l) allowed.range allowed.known allowed.order allowed.fresh allowed.room)
-      ∙ ap Ok is;
+  after = said d ws l says (allowed_back d l allowed) ∙ ap Ok is;
 }
 
 -- the lines of a list, where each step appends an element

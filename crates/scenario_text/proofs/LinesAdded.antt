@@ -168,7 +168,7 @@ still_in_order s added script is shuffled lines ascends bytes room =
       script = λ k d within. let l = all k d within in record { in_run = l.in_run; known = l.known; act = l.act };
       script_ascends = ascends;
       payload_bytes = bytes;
-      few_lines = room.lines;
+      few_lines = (let few = room.lines in omega (arith, few));
       few_boots = room.boots;
     }
 

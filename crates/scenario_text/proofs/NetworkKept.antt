@@ -2,7 +2,6 @@
 use Rattle.std.proofs.Common.{◌≡◌, ◌^◌, ◌<◌, ◌≤◌, List, [], ◌∷◌, true, false, not, ◌&&◌, nat_le, None, ◌∙◌, arith}
 use Rattle.std.proofs.lemmas.Bool.{and_from, and_parts, leb-true, ltb-true, not-true, false≢true}
 use Rattle.std.proofs.lemmas.List.{length_push}
-use Rattle.lwb_base.specs.declared.limits.TheConstants.{MOST_SCRIPT_LINES}
 use Rattle.lwb_base.specs.Profile.{Numbers, IsProfile}
 use Rattle.lwb_base.proofs.Lists.{each_append}
 use Rattle.link_trace.specs.Passes.{Lines}
@@ -31,6 +30,7 @@ linked d t = record d {
     rates = d.network.rates;
     trace = t;
     scripted = d.network.scripted;
+    most = d.network.most;
   };
   first = false;
   after_two = false;
@@ -55,6 +55,7 @@ links_fine d ls fine is =
       power = fine.power;
       counted = fine.counted;
       few = fine.few;
+      limit = fine.limit;
     }
 
 early : (p : Numbers) → IsProfile p → last_tick p < 2 ^ 47
@@ -76,6 +77,7 @@ network_fine d (Sends x) fine none = record {
   power = fine.power;
   counted = fine.counted;
   few = fine.few;
+  limit = fine.limit;
 }
 network_fine d (Node i o) fine none =
     let n : NodeLine = record { node = i; offset = o } in
@@ -99,12 +101,14 @@ network_fine d (Node i o) fine none =
       power = fine.power;
       counted = fine.counted;
       few = fine.few;
+      limit = fine.limit;
     }
 network_fine d (Rate i t slow p) fine none =
     let a = allowed d (line.InNetwork (Rate i t slow p)) none in
     let r : RateLine = record { node = i; from = t; ppm = ppm slow p } in
     let range = and_parts (is_id i && nat_le t (last_tick d.profile)) (nat_le p 20) a.range in
-    let few = ltb-true d.network.scripted MOST_SCRIPT_LINES a.room in
+    let limit = fine.limit in
+    let few = ltb-true d.network.scripted d.network.most a.room in
     let counted = fine.counted in
     record {
       network = network_keeps (last_tick d.profile) d.network (Rate i t slow p) (early d.profile fine.profile) fine.network none;
@@ -121,7 +125,8 @@ network_fine d (Rate i t slow p) fine none =
       unframed = fine.unframed;
       power = fine.power;
       counted = omega (arith, counted, length_push d.network.rates r);
-      few = omega (arith, few);
+      few = omega (arith, few, limit);
+      limit = limit;
     }
 network_fine d (Link u v) fine none =
     let a = allowed d (line.InNetwork (Link u v)) none in

@@ -16,7 +16,7 @@ use Rattle.scenario_text.specs.Network.{is_id, are_ends}
 use Rattle.scenario_text.specs.Canonical.{IsSaid}
 use Rattle.scenario_text.specs.PartsInOrder.{IsNodeLine, IsRateLine, IsInOrder}
 use Rattle.bus_rules.specs.States.{payload_of, IsAct}
-use Rattle.scenario_text.specs.ScenarioFacts.{AreEnds, IsStepOf, IsScriptLine, IsSoundScenario}
+use Rattle.scenario_text.specs.ScenarioFacts.{AreEnds, HasSoundLines, IsStepOf, IsScriptLine, IsSoundScenario}
 use Rattle.scenario_text.specs.ScriptGrammar.{act_in_range, is_short}
 use Rattle.scenario_text.specs.ScenarioGrammar.{greatest_slot_of, is_step, IsScenario}
 use Rattle.scenario_text.specs.ScenarioParts.{ScenarioParts}
@@ -31,7 +31,7 @@ use Rattle.scenario_text.proofs.EachPair.{climbs_pairs, pairs_climb}
 use Rattle.scenario_text.proofs.RatesInOrder.{IsBelow, below_follows, below_in_turn, turns_climb}
 use Rattle.scenario_text.proofs.RatesKept.{map_all}
 use Rattle.scenario_text.proofs.SaidParts.{known_id, said_is}
-use Rattle.scenario_text.proofs.SoundScenarios.{all_of, id_range, rules_sound}
+use Rattle.scenario_text.proofs.SoundScenarios.{all_of, id_range, rules_sound, rules_sound_lines}
 
 all_are : {A : Type 0} (P Q : A → Type 0) (xs : List A) → ((x : A) → P x → Q x) → All P xs → AllByRecursion Q xs
 all_are P Q xs f all = map_all P Q xs f (recursion_from_All P xs all)
@@ -176,6 +176,7 @@ few_bytes (Put x b) has = All-from_recursion (λ b. b < 256) b has
 rules_in_order : (s : ScenarioParts) → KeepsRules s → IsInOrder s
 rules_in_order s is =
     let sound : IsSoundScenario s = rules_sound s is in
+    let lines : HasSoundLines s = rules_sound_lines s is in
     record {
       profile = is.profile;
       frames = is.frames;
@@ -190,14 +191,14 @@ rules_in_order s is =
       host_count = (is.some_hosts, is.few_hosts);
       hosts = sound.hosts_known;
       hosts_differ = sound.hosts_differ;
-      links = sound.links;
-      links_ascend = sound.links_ascend;
-      losses = sound.losses;
-      losses_ascend = sound.losses_ascend;
-      cuts = sound.cuts;
-      cuts_ascend = sound.cuts_ascend;
-      captures = sound.captures;
-      captures_ascend = sound.captures_ascend;
+      links = lines.links;
+      links_ascend = lines.links_ascend;
+      losses = lines.losses;
+      losses_ascend = lines.losses_ascend;
+      cuts = lines.cuts;
+      cuts_ascend = lines.cuts_ascend;
+      captures = lines.captures;
+      captures_ascend = lines.captures_ascend;
       script = sound.script;
       script_ascends = sound.script_ascends;
       payload_bytes = all_of (FitsAct (judge s)) (λ l. All (λ b. b < 256) (payload_of l.act)) s.script (λ l at. few_bytes l.act at.bytes) is.script;

@@ -1,6 +1,6 @@
 -- The rates of each node in turn, taken in turn again.
-use Rattle.std.proofs.Common.{◌≡◌, ℕ, ◌+◌, ◌<◌, ◌≤◌, List, [], ◌∷◌, ◌++◌, Bool, true, false, ◌==◌, length, filter, refl, sym, ◌∙◌, ap, arith}
-use Rattle.std.proofs.lemmas.Bool.{cond-true, cond-false, cond_both, or_left, or_right, or_parts, eq-eqb, eqb-true, eqb-false, ne_eqb}
+use Rattle.std.proofs.Common.{◌≡◌, ℕ, ◌+◌, ◌<◌, List, [], ◌∷◌, ◌++◌, Bool, true, false, ◌||◌, ◌==◌, length, filter, refl, sym, ◌∙◌, ap, arith}
+use Rattle.std.proofs.lemmas.Bool.{cond-true, cond-false, cond_both, or_left, or_right, or_parts, eq-eqb, eqb-true, eqb-false, ne_eqb, false≢true}
 use Rattle.std.proofs.lemmas.List.{length-append}
 use Rattle.std.specs.List.{AllByRecursion}
 use Rattle.lwb_base.proofs.Lists.{each_append}
@@ -31,7 +31,7 @@ same_again ns (m ∷ ms) rs rises known =
 pub in_turn_again : (ns : List NodeLine) (rs : List RateLine) → Rises ns → rates_by_node ns (rates_by_node ns rs) ≡ rates_by_node ns rs
 in_turn_again ns rs rises = same_again ns ns rs rises (all_known ns)
 
--- they are no more
+-- they are as many
 pub unknown_rate : (ns : List NodeLine) (r : RateLine) (rs : List RateLine) → knows ns r.node ≡ false → rates_by_node ns (r ∷ rs) ≡ rates_by_node ns rs
 unknown_rate [] r rs unknown = refl
 unknown_rate (n ∷ ns) r rs unknown =
@@ -40,26 +40,32 @@ unknown_rate (n ∷ ns) r rs unknown =
     ap (λ (l : List RateLine). l ++ rates_by_node ns (r ∷ rs)) (cond-false (is_of n.node r) (r ∷ filter (is_of n.node) rs) (filter (is_of n.node) rs) differ)
     ∙ ap (λ (l : List RateLine). filter (is_of n.node) rs ++ l) (unknown_rate ns r rs p.1)
 
-one_more : (ns : List NodeLine) (r : RateLine) (rs : List RateLine) → Rises ns → length (rates_by_node ns (r ∷ rs)) ≤ length (rates_by_node ns rs) + 1
-one_more [] r rs rises = omega arith
-one_more (n ∷ ns) r rs rises =
+pub none_left : (ns : List NodeLine) → rates_by_node ns [] ≡ []
+none_left [] = refl
+none_left (n ∷ ns) = none_left ns
+
+one_known : (ns : List NodeLine) (r : RateLine) (rs : List RateLine) → Rises ns → knows ns r.node ≡ true
+    → length (rates_by_node ns (r ∷ rs)) ≡ length (rates_by_node ns rs) + 1
+one_known [] r rs rises known = absurd (false≢true known)
+one_known (n ∷ ns) r rs rises known =
     let fs : List RateLine = filter (is_of n.node) rs in
     let before = length-append fs (rates_by_node ns rs) in
-    cond_both (is_of n.node r) (r ∷ fs) fs (λ (l : List RateLine). length (l ++ rates_by_node ns (r ∷ rs)) ≤ length (fs ++ rates_by_node ns rs) + 1)
+    cond_both (is_of n.node r) (r ∷ fs) fs (λ (l : List RateLine). length (l ++ rates_by_node ns (r ∷ rs)) ≡ length (fs ++ rates_by_node ns rs) + 1)
     (λ same.
     let unknown : knows ns r.node ≡ false = ap (knows ns) (eqb-true r.node n.node same) ∙ above_unknown n ns rises.0 in
     let rest : length (rates_by_node ns (r ∷ rs)) ≡ length (rates_by_node ns rs) = ap length (unknown_rate ns r rs unknown) in
     let after = length-append (r ∷ fs) (rates_by_node ns (r ∷ rs)) in
     omega (arith, before, after, rest))
-    (λ other. let after = length-append fs (rates_by_node ns (r ∷ rs)) in omega (arith, before, after, one_more ns r rs rises.1))
+    (λ other.
+    let differ : (n.node == r.node) ≡ false = ne_eqb n.node r.node (λ same. eqb-false r.node n.node other (sym same)) in
+    let later : knows ns r.node ≡ true = ap (λ (b : Bool). b || knows ns r.node) (sym differ) ∙ known in
+    let after = length-append fs (rates_by_node ns (r ∷ rs)) in
+    omega (arith, before, after, one_known ns r rs rises.1 later))
 
-pub none_left : (ns : List NodeLine) → rates_by_node ns [] ≡ []
-none_left [] = refl
-none_left (n ∷ ns) = none_left ns
-
-pub no_more : (ns : List NodeLine) (rs : List RateLine) → Rises ns → length (rates_by_node ns rs) ≤ length rs
-no_more ns [] rises = let none : length (rates_by_node ns []) ≡ 0 = ap length (none_left ns) in omega (arith, none)
-no_more ns (r ∷ rs) rises = omega (arith, one_more ns r rs rises, no_more ns rs rises)
+pub all_kept : (ns : List NodeLine) (rs : List RateLine) → Rises ns → AllByRecursion (λ r. knows ns r.node ≡ true) rs
+    → length (rates_by_node ns rs) ≡ length rs
+all_kept ns [] rises known = ap length (none_left ns)
+all_kept ns (r ∷ rs) rises known = omega (arith, one_known ns r rs rises known.0, all_kept ns rs rises known.1)
 
 -- and those of one node still begin one after another
 pub climbs_filter : {A : Type 0} (R : A → A → Type 0) (p : A → Bool) (xs : List A) → Climbs R xs → Climbs R (filter p xs)

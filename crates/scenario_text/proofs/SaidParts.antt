@@ -16,15 +16,16 @@ use Rattle.text_readers.specs.Faults.{draft_after_lines, in_line, ◌>>=◌}
 use Rattle.text_readers.specs.Reading.{draft_after_line}
 use Rattle.scenario_text.specs.Network.{is_id, network_parts, network_line, rates_by_node}
 use Rattle.scenario_text.specs.Payloads.{is_payload, payload, payload_bytes, hex_bytes, hex_value}
-use Rattle.scenario_text.specs.ScenarioGrammar.{Scenario, no_scenario, last_tick, line_fault, with_scenario_line, after_spelled}
+use Rattle.scenario_text.specs.ScenarioGrammar.{Scenario, last_tick, line_fault, with_scenario_line, after_spelled}
 use Rattle.scenario_text.specs.ScriptGrammar.{first_word_is, script_line, step_line, put_line, script_of}
 use Rattle.scenario_text.specs.ScenarioGrammar.{scenario_after_words, scenario_line, scenario_numbers}
-use Rattle.scenario_text.specs.ScenarioGrammar.{whole_within, finished_parts, if_small, scenario_of, long_scenario_of, IsScenario}
+use Rattle.scenario_text.specs.ScenarioGrammar.{whole_within, finished_parts, if_small, long_limits, scenario_of_lines, long_scenario_of, IsScenario}
+use Rattle.scenario_text.specs.PartsInOrder.{script_lines}
 use Rattle.scenario_text.specs.ScenarioParts.{ScenarioParts}
 use Rattle.scenario_text.specs.Canonical.{canonical}
 use Rattle.text_readers.specs.declared.fault.FaultKind.{FaultKind}
 use Rattle.text_readers.specs.declared.fault.FaultKind.TheVariants.{Missing, TooBig}
-use Rattle.scenario_text.specs.declared.limits.TheConstants.{RUN_NODE_FRAMES, BUS_NODE_FRAMES}
+use Rattle.scenario_text.specs.declared.limits.TheConstants.{BUS_NODE_FRAMES}
 use Rattle.scenario_text.specs.declared.lines.NodeLine.{NodeLine}
 use Rattle.scenario_text.specs.declared.lines.RateLine.{RateLine}
 use Rattle.scenario_text.specs.declared.scenario_line.ScenarioLine.{ScenarioLine}
@@ -33,11 +34,10 @@ use Rattle.scenario_text.specs.declared.scenario_line.ScenarioLine.TheVariants.{
 use Rattle.scenario_text.specs.declared.written_act.WrittenAct.TheVariants.{On, Off, Stream, Leave, Put}
 use Rattle.text_readers.proofs.AllowedLines.{unless_keeps, spelled_keeps}
 use Rattle.text_readers.proofs.LinesRead.{line_keeps, lines_keep}
-use Rattle.scenario_text.proofs.Horizons.{said_to_run}
 use Rattle.scenario_text.proofs.RatesKept.{map_all, all_by_node}
-use Rattle.scenario_text.proofs.RatesInTurn.{in_turn_again, no_more, turns_follow}
+use Rattle.scenario_text.proofs.RatesInTurn.{in_turn_again, all_kept, turns_follow}
 use Rattle.scenario_text.proofs.CanonicalFacts.{IsNode, IsRateOf, IsHost, KeepsRules}
-use Rattle.scenario_text.proofs.DraftFacts.{IsScript, IsTrace, IsFine}
+use Rattle.scenario_text.proofs.DraftFacts.{IsScript, IsTrace, IsFine, nothing}
 use Rattle.scenario_text.proofs.CanonicalSays.{canonical_says}
 use Rattle.scenario_text.proofs.DraftKept.{IsRead, line_fine}
 use Rattle.scenario_text.proofs.FirstDrafts.{fine_first}
@@ -102,10 +102,10 @@ words_fine d ws fine =
     read_as : (ws : List (List ℕ)) (l : ScenarioLine) → scenario_line ws ≡ Some l → IsRead l
     read_as ws l is = subst (λ (o : Option ScenarioLine). IfSome o IsRead) is (line_read ws)
 
-pub fine_lines : (d : Scenario) (texts : List (List ℕ)) → draft_after_lines (draft_after_line scenario_after_words) 1 no_scenario texts ≡ Ok d → IsFine d
+pub fine_lines : (d : Scenario) (texts : List (List ℕ)) → draft_after_lines (draft_after_line scenario_after_words) 1 nothing texts ≡ Ok d → IsFine d
 fine_lines d texts is =
     lines_keep IsFine (draft_after_line scenario_after_words)
-    (λ e text fine. line_keeps IsFine scenario_after_words e text fine (words_fine e (words text) fine)) 1 no_scenario d texts fine_first is
+    (λ e text fine. line_keeps IsFine scenario_after_words e text fine (words_fine e (words text) fine)) 1 nothing d texts fine_first is
 
 -- ids of known nodes
 pub known_id : (ns : List NodeLine) (v : ℕ) → AllByRecursion (λ n. is_id n.node ≡ true) ns → knows ns v ≡ true → is_id v ≡ true
@@ -124,6 +124,9 @@ rates_are p ns [] ids rates ticks = tt
 rates_are p ns (r ∷ rs) ids rates ticks =
     let first = rates.0 in
     (record { id = known_id ns r.node ids first.known; known = first.known; early = ticks.0; small = first.small }, rates_are p ns rs ids rates.1 ticks.1)
+
+rates_known : (ns : List NodeLine) (rs : List RateLine) → AllByRecursion (IsRate ns) rs → AllByRecursion (λ r. knows ns r.node ≡ true) rs
+rates_known ns rs are = map_all (IsRate ns) (λ r. knows ns r.node ≡ true) rs (λ r is. is.known) are
 
 abbrev whole : Scenario → ℕ → ℕ → ScenarioParts
 whole d n f = record {
@@ -173,7 +176,7 @@ whole_said d n f fine sends frames two host small =
       cuts_climb = trace.cuts_climb;
       captures = trace.captures;
       captures_climb = trace.captures_climb;
-      scripted = omega (arith, counted, few, no_more ns rs net.rises);
+      scripted = omega (arith, counted, few, all_kept ns rs net.rises (rates_known ns rs net.rates));
       small = small;
     }
 
@@ -186,17 +189,28 @@ ok_where : (b : Bool) (x : ScenarioParts) (k : FaultKind) (s : ScenarioParts) �
 ok_where true x k s is = (refl, subst (λ (r : Result ScenarioParts FaultKind). IfOk r (λ y. x ≡ y)) is refl)
 ok_where false x k s is = cc
 
-finished_said : (d : Scenario) (s : ScenarioParts) → IsFine d → whole_within BUS_NODE_FRAMES d ≡ Ok s → KeepsRules s
-finished_said d s fine is = by_parts d.network.sends d.frames refl refl is
+-- what a draft says at its end
+record IsEnd (d : Scenario) (s : ScenarioParts) : Type 0 where
+  n : ℕ
+  f : ℕ
+  sends : d.network.sends ≡ Some n
+  frames : d.frames ≡ Some f
+  two : 2 ≤ length d.network.nodes
+  host : 1 ≤ length d.hosts
+  small : length d.network.nodes * f ≤ BUS_NODE_FRAMES
+  parts : whole d n f ≡ s
+
+finished_is : (d : Scenario) (s : ScenarioParts) → whole_within BUS_NODE_FRAMES d ≡ Ok s → IsEnd d s
+finished_is d s is = by_parts d.network.sends d.frames refl refl is
   where
-    by_parts : (o g : Option ℕ) → d.network.sends ≡ o → d.frames ≡ g → finished_parts BUS_NODE_FRAMES d (network_parts d.network o) g ≡ Ok s → KeepsRules s
+    by_parts : (o g : Option ℕ) → d.network.sends ≡ o → d.frames ≡ g → finished_parts BUS_NODE_FRAMES d (network_parts d.network o) g ≡ Ok s → IsEnd d s
     by_parts None g sends frames is = cc
     by_parts (Some n) None sends frames is = by_two (nat_le 2 (length d.network.nodes)) is
       where
         by_two : (b : Bool)
             → finished_parts BUS_NODE_FRAMES d (if b then Some (record
             { sends = n; nodes = d.network.nodes; rates = rates_by_node d.network.nodes d.network.rates; trace = d.network.trace }) else None) None ≡ Ok s
-            → KeepsRules s
+            → IsEnd d s
         by_two true is = cc
         by_two false is = cc
     by_parts (Some n) (Some f) sends frames is = by_two (nat_le 2 (length d.network.nodes)) refl is
@@ -204,34 +218,56 @@ finished_said d s fine is = by_parts d.network.sends d.frames refl refl is
         by_two : (b : Bool) → nat_le 2 (length d.network.nodes) ≡ b
             → finished_parts BUS_NODE_FRAMES d (if b then Some (record
             { sends = n; nodes = d.network.nodes; rates = rates_by_node d.network.nodes d.network.rates; trace = d.network.trace }) else None) (Some f) ≡ Ok s
-            → KeepsRules s
+            → IsEnd d s
         by_two false two is = cc
         by_two true two is =
             let hosts = ok_unless (length d.hosts == 0) (if_small BUS_NODE_FRAMES (whole d n f)) Missing s is in
             let small = ok_where (nat_le (length d.network.nodes * f) BUS_NODE_FRAMES) (whole d n f) TooBig s hosts.1 in
             let some = eqb-false (length d.hosts) 0 hosts.0 in
-            subst KeepsRules small.1
-            (whole_said d n f fine sends frames (leb-true 2 (length d.network.nodes) two) (omega (arith, some))
-            (leb-true (length d.network.nodes * f) BUS_NODE_FRAMES small.0))
+            record {
+              n = n;
+              f = f;
+              sends = sends;
+              frames = frames;
+              two = leb-true 2 (length d.network.nodes) two;
+              host = omega (arith, some);
+              small = leb-true (length d.network.nodes * f) BUS_NODE_FRAMES small.0;
+              parts = small.1;
+            }
 
-pub said_is : (s : ScenarioParts) → IsScenario s → KeepsRules s
-said_is s said = by_lines (draft_after_lines (draft_after_line scenario_after_words) 1 no_scenario (lines said.0)) refl said.1
+finished_said : (d : Scenario) (s : ScenarioParts) → IsFine d → IsEnd d s → KeepsRules s
+finished_said d s fine end = subst KeepsRules end.parts (whole_said d end.n end.f fine end.sends end.frames end.two end.host end.small)
+
+-- it has as many script lines as were counted
+pub finished_counted : (d : Scenario) (s : ScenarioParts) → IsFine d → whole_within BUS_NODE_FRAMES d ≡ Ok s → script_lines s ≡ d.network.scripted
+finished_counted d s fine is =
+    let end = finished_is d s is in
+    let counted = fine.counted in
+    let kept = all_kept d.network.nodes d.network.rates fine.network.rises (rates_known d.network.nodes d.network.rates fine.network.rates) in
+    let here : script_lines (whole d end.n end.f) ≡ d.network.scripted = omega (arith, counted, kept) in
+    subst (λ (x : ScenarioParts). script_lines x ≡ d.network.scripted) end.parts here
+
+pub lines_keep_rules : (s : ScenarioParts) (ls : List (List ℕ)) → scenario_of_lines long_limits ls ≡ Ok s → KeepsRules s
+lines_keep_rules s ls said = by_lines (draft_after_lines (draft_after_line scenario_after_words) 1 nothing ls) refl said
   where
-    by_lines : (r : Result Scenario (ℕ × FaultKind)) → draft_after_lines (draft_after_line scenario_after_words) 1 no_scenario (lines said.0) ≡ r
-        → (r >>= (λ e. in_line (length (lines said.0) + 1) (whole_within BUS_NODE_FRAMES e))) ≡ Ok s → KeepsRules s
+    by_lines : (r : Result Scenario (ℕ × FaultKind)) → draft_after_lines (draft_after_line scenario_after_words) 1 nothing ls ≡ r
+        → (r >>= (λ e. in_line (length ls + 1) (whole_within BUS_NODE_FRAMES e))) ≡ Ok s → KeepsRules s
     by_lines (Err k) read is = cc
     by_lines (Ok d) read is = by_end (whole_within BUS_NODE_FRAMES d) refl is
       where
-        by_end : (q : Result ScenarioParts FaultKind) → whole_within BUS_NODE_FRAMES d ≡ q → in_line (length (lines said.0) + 1) q ≡ Ok s → KeepsRules s
+        by_end : (q : Result ScenarioParts FaultKind) → whole_within BUS_NODE_FRAMES d ≡ q → in_line (length ls + 1) q ≡ Ok s → KeepsRules s
         by_end (Err k) done is = cc
         by_end (Ok x) done is =
-            finished_said d s (fine_lines d (lines said.0) read)
-            (done ∙ ap Ok (subst (λ (q : Result ScenarioParts (ℕ × FaultKind)). IfOk q (λ y. x ≡ y)) is refl))
+            finished_said d s (fine_lines d ls read) (finished_is d s
+            (done ∙ ap Ok (subst (λ (q : Result ScenarioParts (ℕ × FaultKind)). IfOk q (λ y. x ≡ y)) is refl)))
+
+-- lines that say a scenario are those of a text: its canonical one says it again
+pub lines_say : (s : ScenarioParts) (ls : List (List ℕ)) → scenario_of_lines long_limits ls ≡ Ok s → IsScenario s
+lines_say s ls said = (canonical s, canonical_says s (lines_keep_rules s ls said))
+
+pub said_is : (s : ScenarioParts) → IsScenario s → KeepsRules s
+said_is s said = lines_keep_rules s (lines said.0) said.1
 
 -- a text that is the canonical one
 pub says_again : (s : ScenarioParts) (text : List ℕ) → text ≡ canonical s → IsScenario s → long_scenario_of text ≡ Ok s
 says_again s text is said = ap long_scenario_of is ∙ canonical_says s (said_is s said)
-
-pub says_again_to_run : (s : ScenarioParts) (text : List ℕ) → text ≡ canonical s → IsScenario s → length s.nodes * s.frames ≤ RUN_NODE_FRAMES
-    → scenario_of text ≡ Ok s
-says_again_to_run s text is said small = (said_to_run text s).1 (says_again s text is said, small)

@@ -53,14 +53,16 @@ words_keep d ws sound =
     spelled_keeps IsScenarioDraft (scenario_line ws) (λ (l : ScenarioLine). scenario_numbers l ws) (after_spelled d)
     (λ l is. unless_keeps IsScenarioDraft (line_fault d l) (with_scenario_line d l) (λ none. added_keeps d l sound none))
 
-nothing_sound : IsScenarioDraft no_scenario
-nothing_sound = record {
+nothing_sound : (most : ℕ) → IsScenarioDraft (no_scenario most)
+nothing_sound most = record {
   network = record { sends = tt; few_nodes = omega arith; rises = tt; offsets = tt; follows = tt; rates = tt };
   frame = omega arith;
 }
 
 -- after allowed lines
-pub text_sound : (d : Scenario) (ls : List (List ℕ)) → draft_after_lines (draft_after_line scenario_after_words) 1 no_scenario ls ≡ Ok d → IsScenarioDraft d
-text_sound d ls is =
+pub text_sound : (most : ℕ) (d : Scenario) (ls : List (List ℕ))
+    → draft_after_lines (draft_after_line scenario_after_words) 1 (no_scenario most) ls ≡ Ok d → IsScenarioDraft d
+text_sound most d ls is =
     lines_keep IsScenarioDraft (draft_after_line scenario_after_words)
-    (λ e line sound. line_keeps IsScenarioDraft scenario_after_words e line sound (words_keep e (words line) sound)) 1 no_scenario d ls nothing_sound is
+    (λ e line sound. line_keeps IsScenarioDraft scenario_after_words e line sound (words_keep e (words line) sound))
+    1 (no_scenario most) d ls (nothing_sound most) is

@@ -7,7 +7,7 @@ use Rattle.std.specs.Prelude.{slice_get}
 use Rattle.std.specs.List.{AllByRecursion}
 use Rattle.std.specs.Option.{option_map_or}
 use Rattle.std.specs.declared.cmp.Ordering.TheVariants.{Less}
-use Rattle.lwb_base.specs.declared.limits.TheConstants.{MOST_SCRIPT_LINES}
+use Rattle.scenario_text.specs.declared.limits.TheConstants.{BUS_SCRIPT_LINES}
 use Rattle.lwb_base.specs.Profile.{Numbers, IsProfile}
 use Rattle.link_trace.proofs.Orders.{tells_loss, tells_cut, tells_capture}
 use Rattle.link_trace.specs.Order.{by_loss, by_cut, by_capture}
@@ -65,7 +65,7 @@ same_room s hs rs t ls w n i (Leave x) = refl
 same_room s hs rs t ls w n i (Put x p) = refl
 
 act_allowed : (s : ScenarioParts) (hs : List ℕ) (rs : List RateLine) (t : Lines) (ls : List ScriptLine) (w : Power) (n f i : ℕ) (a : Act)
-    → Fits (judge s) (said_act f i a) → option_map_or (λ l. nat_le l.frame f) (last_script_line ls) true ≡ true → nat_lt n MOST_SCRIPT_LINES ≡ true
+    → Fits (judge s) (said_act f i a) → option_map_or (λ l. nat_le l.frame f) (last_script_line ls) true ≡ true → nat_lt n BUS_SCRIPT_LINES ≡ true
     → can_boot w i a ≡ true
     → Allowed (mid s s.nodes rs hs t ls w n) (said_act f i a)
 act_allowed s hs rs t ls w n f i a fits order room boot = record {
@@ -138,7 +138,7 @@ step_script s is ls l ms split =
     step (with_script s ls) (script_words l) (said_act l.frame l.node l.act) (with_script s (ls ++ l ∷ []))
     (act_says s l.frame l.node l.act is at.fits at.bytes)
     (act_allowed s s.hosts s.rates t ls w n l.frame l.node l.act at.fits (not_later l.frame ls before)
-    (lt-ltb n MOST_SCRIPT_LINES (omega (arith, long, few))) (boots_at no_power ls l ms boots))
+    (lt-ltb n BUS_SCRIPT_LINES (omega (arith, long, few))) (boots_at no_power ls l ms boots))
     (act_next s s.hosts s.rates t ls w n l.frame l.node l.act
     ∙ ap (λ (x : Power). mid s s.nodes s.rates s.hosts t (ls ++ l ∷ []) x (n + 1)) (sym (power_more no_power ls l))
     ∙ ap (λ (m : ℕ). mid s s.nodes s.rates s.hosts t (ls ++ l ∷ []) (power_after no_power (ls ++ l ∷ [])) m) count)
@@ -185,7 +185,7 @@ step_loss s is ls l ms split =
       known = fits.known;
       order = refl;
       fresh = none_among by_loss (is_loss l.frame l.slot l.step l.from l.to) l ls (tells_loss l.frame l.slot l.step l.from l.to) before;
-      room = lt-ltb n MOST_SCRIPT_LINES (omega (arith, long, few));
+      room = lt-ltb n BUS_SCRIPT_LINES (omega (arith, long, few));
     })
     (ap (λ (x : List LoseLine). full s (record { links = s.trace.links; losses = x; cuts = []; captures = [] }) (n + 1)) (with_line_last by_loss l ls before)
     ∙ ap (full s (record { links = s.trace.links; losses = ls ++ l ∷ []; cuts = []; captures = [] })) count)
@@ -217,7 +217,7 @@ step_cut s is ls l ms split =
       known = fits.known;
       order = refl;
       fresh = none_among by_cut (is_cut l.frame l.slot l.step l.node) l ls (tells_cut l.frame l.slot l.step l.node) before;
-      room = lt-ltb n MOST_SCRIPT_LINES (omega (arith, long, few));
+      room = lt-ltb n BUS_SCRIPT_LINES (omega (arith, long, few));
     })
     (ap (λ (x : List CutLine). full s (record { links = s.trace.links; losses = s.trace.losses; cuts = x; captures = [] }) (n + 1))
     (with_line_last by_cut l ls before)
@@ -253,7 +253,7 @@ step_capture s is ls l ms split =
       known = fits.known;
       order = refl;
       fresh = none_among by_capture (is_capture l.frame l.slot l.step l.at) l ls (tells_capture l.frame l.slot l.step l.at l.from) before;
-      room = lt-ltb n MOST_SCRIPT_LINES (omega (arith, long, few));
+      room = lt-ltb n BUS_SCRIPT_LINES (omega (arith, long, few));
     })
     (ap (λ (x : List CaptureLine). full s (record { links = s.trace.links; losses = s.trace.losses; cuts = s.trace.cuts; captures = x })
     (n + 1)) (with_line_last by_capture l ls before)

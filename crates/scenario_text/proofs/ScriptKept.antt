@@ -4,7 +4,6 @@ use Rattle.std.proofs.lemmas.Bool.{and_parts, ltb-true, false≢true}
 use Rattle.std.proofs.lemmas.List.{length_push}
 use Rattle.std.specs.List.{AllByRecursion}
 use Rattle.std.specs.Option.{option_map_or}
-use Rattle.lwb_base.specs.declared.limits.TheConstants.{MOST_SCRIPT_LINES}
 use Rattle.lwb_base.specs.Profile.{Numbers}
 use Rattle.lwb_base.proofs.Lists.{each_append}
 use Rattle.scenario_text.specs.Network.{has_script_room}
@@ -36,7 +35,14 @@ power_of d = record { on = d.on; boots = d.boots }
 
 abbrev pub next : Scenario → ℕ → ℕ → Act → Scenario
 next d f i a = record d {
-  network = record { sends = d.network.sends; nodes = d.network.nodes; rates = d.network.rates; trace = d.network.trace; scripted = d.network.scripted + 1 };
+  network = record {
+    sends = d.network.sends;
+    nodes = d.network.nodes;
+    rates = d.network.rates;
+    trace = d.network.trace;
+    scripted = d.network.scripted + 1;
+    most = d.network.most;
+  };
   first = false;
   after_two = false;
   script = d.script ++ record { frame = f; node = i; act = a } ∷ [];
@@ -51,7 +57,8 @@ act_fine d f i a fine fits bytes order room boot =
     let l : ScriptLine = record { frame = f; node = i; act = a } in
     let parts = and_parts (is_some d.frames) (option_map_or (λ x. nat_le x.frame f) (last_script_line d.script) true) order in
     let before = none_later f d.script fine.script.climbs parts.1 in
-    let few = ltb-true d.network.scripted MOST_SCRIPT_LINES room in
+    let limit = fine.limit in
+    let few = ltb-true d.network.scripted d.network.most room in
     let counted = fine.counted in
     record {
       network = record { sends = n.sends; few_nodes = n.few_nodes; rises = n.rises; offsets = n.offsets; follows = n.follows; rates = n.rates };
@@ -68,5 +75,6 @@ act_fine d f i a fine fits bytes order room boot =
       unframed = λ none. absurd (framed d.frames parts.0 none);
       power = ap (λ (w : Power). after_act w i a) fine.power ∙ sym (power_more no_power d.script l);
       counted = omega (arith, counted, length_push d.script l);
-      few = omega (arith, few);
+      few = omega (arith, few, limit);
+      limit = limit;
     }

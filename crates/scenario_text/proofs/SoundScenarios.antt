@@ -12,7 +12,7 @@ use Rattle.link_trace.specs.declared.lines.CutLine.{CutLine}
 use Rattle.link_trace.specs.declared.lines.CaptureLine.{CaptureLine}
 use Rattle.scenario_text.specs.FloodParts.{knows}
 use Rattle.scenario_text.specs.Network.{is_id, are_ends}
-use Rattle.scenario_text.specs.ScenarioFacts.{AreEnds, IsStepOf, IsScriptLine, IsSoundScenario}
+use Rattle.scenario_text.specs.ScenarioFacts.{AreEnds, HasSoundLines, IsStepOf, IsScriptLine, IsSoundScenario}
 use Rattle.bus_rules.specs.States.{IsAct}
 use Rattle.scenario_text.specs.ScriptGrammar.{act_in_range}
 use Rattle.scenario_text.specs.ScenarioGrammar.{last_tick, greatest_slot_of, is_step, IsScenario}
@@ -102,22 +102,29 @@ rules_sound s is =
       few_hosts = is.few_hosts;
       hosts_known = all_of (IsHost s.nodes) (λ h. knows s.nodes h ≡ true) s.hosts (λ h host. host.known) is.hosts;
       hosts_differ = λ i j d before within. eqb-false _ _ (climbs_pairs (λ g h. (g == h) ≡ false) s.hosts is.distinct i j d before within);
-      links = all_of (λ l. Fits (judge s) (said_link l)) (λ l. AreEnds s.nodes l.from l.to) s.trace.links
-          (λ l fits. ends_are s l.from l.to fits.range fits.known) is.links;
-      links_ascend = climbs_pairs (λ a b. by_link a b ≡ Less) s.trace.links is.links_climb;
-      losses = all_of (λ l. Fits (judge s) (said_loss l)) (λ l. IsStepOf s l.frame l.slot l.step × AreEnds s.nodes l.from l.to)
-          s.trace.losses (loss_is s) is.losses;
-      losses_ascend = climbs_pairs (λ a b. by_loss a b ≡ Less) s.trace.losses is.losses_climb;
-      cuts = all_of (λ l. Fits (judge s) (said_cut l)) (λ l. IsStepOf s l.frame l.slot l.step × (knows s.nodes l.node ≡ true)) s.trace.cuts (cut_is s) is.cuts;
-      cuts_ascend = climbs_pairs (λ a b. by_cut a b ≡ Less) s.trace.cuts is.cuts_climb;
-      captures = all_of (λ l. Fits (judge s) (said_capture l)) (λ l. IsStepOf s l.frame l.slot l.step × AreEnds s.nodes l.at l.from)
-          s.trace.captures (capture_is s) is.captures;
-      captures_ascend = climbs_pairs (λ a b. by_capture a b ≡ Less) s.trace.captures is.captures_climb;
       script = all_of (FitsAct (judge s)) (IsScriptLine s) s.script (λ l at. act_is s l.frame l.node l.act at.fits) is.script;
       script_ascends = climbs_pairs (λ a b. a.frame ≤ b.frame) s.script is.script_climbs;
       few_boots = λ v. few_boots v s.script (map_all (FitsAct (judge s)) (λ l. l.node ≤ 200) s.script
           (λ l at. small_node s l.node is (act_is s l.frame l.node l.act at.fits).known) is.script) is.boots;
     }
 
+pub rules_sound_lines : (s : ScenarioParts) → KeepsRules s → HasSoundLines s
+rules_sound_lines s is = record {
+  links = all_of (λ l. Fits (judge s) (said_link l)) (λ l. AreEnds s.nodes l.from l.to) s.trace.links
+      (λ l fits. ends_are s l.from l.to fits.range fits.known) is.links;
+  links_ascend = climbs_pairs (λ a b. by_link a b ≡ Less) s.trace.links is.links_climb;
+  losses = all_of (λ l. Fits (judge s) (said_loss l)) (λ l. IsStepOf s l.frame l.slot l.step × AreEnds s.nodes l.from l.to)
+      s.trace.losses (loss_is s) is.losses;
+  losses_ascend = climbs_pairs (λ a b. by_loss a b ≡ Less) s.trace.losses is.losses_climb;
+  cuts = all_of (λ l. Fits (judge s) (said_cut l)) (λ l. IsStepOf s l.frame l.slot l.step × (knows s.nodes l.node ≡ true)) s.trace.cuts (cut_is s) is.cuts;
+  cuts_ascend = climbs_pairs (λ a b. by_cut a b ≡ Less) s.trace.cuts is.cuts_climb;
+  captures = all_of (λ l. Fits (judge s) (said_capture l)) (λ l. IsStepOf s l.frame l.slot l.step × AreEnds s.nodes l.at l.from)
+      s.trace.captures (capture_is s) is.captures;
+  captures_ascend = climbs_pairs (λ a b. by_capture a b ≡ Less) s.trace.captures is.captures_climb;
+}
+
 pub sound : (s : ScenarioParts) → IsScenario s → IsSoundScenario s
 sound s said = rules_sound s (said_is s said)
+
+pub sound_lines : (s : ScenarioParts) → IsScenario s → HasSoundLines s
+sound_lines s said = rules_sound_lines s (said_is s said)

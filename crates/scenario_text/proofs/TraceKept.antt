@@ -2,7 +2,6 @@
 use Rattle.std.proofs.Common.{◌≡◌, ℕ, ◌+◌, List, true, false, not, ◌&&◌, ◌==◌, Option, is_some, length, sym, arith}
 use Rattle.std.proofs.lemmas.Bool.{and_from, and_parts, ltb-true, not-true, not_from_false, eqb-false, ne_eqb, false≢true}
 use Rattle.std.specs.List.{list_any}
-use Rattle.lwb_base.specs.declared.limits.TheConstants.{MOST_SCRIPT_LINES}
 use Rattle.lwb_base.specs.Profile.{Numbers}
 use Rattle.link_trace.proofs.Orders.{by_link_total, by_loss_total, by_cut_total, by_capture_total, tells_link, tells_loss, tells_cut, tells_capture}
 use Rattle.link_trace.specs.Order.{by_link, by_loss, by_cut, by_capture}
@@ -19,7 +18,14 @@ use Rattle.scenario_text.proofs.ScriptKept.{framed}
 -- a change of the trace, as a script line
 abbrev pub traced : Scenario → Lines → Scenario
 traced d t = record d {
-  network = record { sends = d.network.sends; nodes = d.network.nodes; rates = d.network.rates; trace = t; scripted = d.network.scripted + 1 };
+  network = record {
+    sends = d.network.sends;
+    nodes = d.network.nodes;
+    rates = d.network.rates;
+    trace = t;
+    scripted = d.network.scripted + 1;
+    most = d.network.most;
+  };
   first = false;
   after_two = false;
 }
@@ -30,7 +36,8 @@ pub trace_fine : (d : Scenario) (t : Lines) → IsFine d → IsTrace d.profile d
     + length d.network.trace.captures + 1 → IsFine (traced d t)
 trace_fine d t fine is some room more =
     let n = fine.network in
-    let few = ltb-true d.network.scripted MOST_SCRIPT_LINES room in
+    let limit = fine.limit in
+    let few = ltb-true d.network.scripted d.network.most room in
     let counted = fine.counted in
     record {
       network = record { sends = n.sends; few_nodes = n.few_nodes; rises = n.rises; offsets = n.offsets; follows = n.follows; rates = n.rates };
@@ -46,7 +53,8 @@ trace_fine d t fine is some room more =
       unframed = λ none. absurd (framed d.frames some none);
       power = fine.power;
       counted = omega (arith, counted, more);
-      few = omega (arith, few);
+      few = omega (arith, few, limit);
+      limit = limit;
     }
 
 pub loss_trace : (p : Numbers) (fr : Option ℕ) (ns : List NodeLine) (t : Lines) (f j k u v : ℕ) → IsTrace p fr ns t

@@ -24,8 +24,8 @@ pub record IsWithScript (s : ScenarioParts) (added : List ScriptLine) (t : Scena
   pub parts : t ≡ record s { script = t.script }
   pub script : IsMerged s.script added t.script
 
--- no line is rejected as one too many: no node boots more often than it may, and there are at most 20,000 script lines of all
--- kinds
+-- no line is rejected as one too many: no node boots more often than it may, and there are no more script lines of all kinds
+-- than a run with a log may have
 pub record HasRoom (s : ScenarioParts) : Type 0 where
   pub lines : script_lines s ≤ MOST_SCRIPT_LINES
   pub boots : (v : ℕ) → (turned v (false, 0) s.script).1 ≤ MOST_BOOTS

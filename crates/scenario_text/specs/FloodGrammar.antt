@@ -5,7 +5,7 @@ use Rattle.std.specs.List.{list_all}
 use Rattle.std.specs.Option.{ok_or}
 use Rattle.std.specs.Str.{bytes_eq}
 use Rattle.std.specs.Str.Lines.{lines}
-use Rattle.lwb_base.specs.declared.limits.TheConstants.{LAST_STEP}
+use Rattle.lwb_base.specs.declared.limits.TheConstants.{LAST_STEP, MOST_SCRIPT_LINES}
 use Rattle.scenario_text.specs.FloodParts.{FloodParts, knows}
 use Rattle.text_readers.specs.Faults.{first_fault, unless_fault, spelled, in_line, ◌>>=◌, draft_after_lines}
 use Rattle.text_readers.specs.Reading.{draft_after_line}
@@ -36,7 +36,7 @@ pub record Flood : Type 0 where
   pub start : Option ℕ
 
 abbrev pub no_flood : Flood
-no_flood = record { network = no_network; start = None }
+no_flood = record { network = no_network MOST_SCRIPT_LINES; start = None }
 
 -- the fault of a line that is spelled right
 abbrev pub rule_fault : Flood → FloodLine → Option FaultKind

@@ -10,5 +10,6 @@ pub mod ScenarioGrammar
 pub mod Canonical
 pub mod ScenarioDrafts
 pub mod ScenarioFacts
+pub mod OverLines
 pub mod PartsInOrder
 pub mod AddedLines

@@ -4,7 +4,7 @@ use Rattle.std.specs.Prelude.{Some, None, Option, is_none, length, drop, codes, 
 use Rattle.std.specs.List.{list_all, list_any, flat_map}
 use Rattle.std.specs.Str.{bytes_eq}
 use Rattle.std.specs.Option.{option_map_or}
-use Rattle.lwb_base.specs.declared.limits.TheConstants.{DRIFT_BOUND, GREATEST_ID, MOST_NODES, MOST_SCRIPT_LINES}
+use Rattle.lwb_base.specs.declared.limits.TheConstants.{DRIFT_BOUND, GREATEST_ID, MOST_NODES}
 use Rattle.link_trace.specs.Order.{with_line as in_order_with, by_link, by_loss, by_cut, by_capture}
 use Rattle.link_trace.specs.Passes.{Lines, is_link, is_loss, is_cut, is_capture}
 use Rattle.link_trace.specs.Sealed.{no_lines}
@@ -38,16 +38,17 @@ network_numbers (Link u v) ws = list_all is_number (drop 1 ws)
 network_numbers (Pair u v) ws = list_all is_number (drop 1 ws)
 
 -- What the lines above say of these lines: the transmissions of a node, the nodes by id, the rates in the order of the text, the
--- trace, and how many script lines there are
+-- trace, how many script lines there are, and the most that there may be
 pub record DraftedNetwork : Type 0 where
   pub sends : Option ℕ
   pub nodes : List NodeLine
   pub rates : List RateLine
   pub trace : Lines
   pub scripted : ℕ
+  pub most : ℕ
 
-abbrev pub no_network : DraftedNetwork
-no_network = record { sends = None; nodes = []; rates = []; trace = no_lines; scripted = 0 }
+abbrev pub no_network : ℕ → DraftedNetwork
+no_network most = record { sends = None; nodes = []; rates = []; trace = no_lines; scripted = 0; most = most }
 
 abbrev pub is_id : ℕ → Bool
 is_id i = nat_le 1 i && nat_le i GREATEST_ID
@@ -106,7 +107,7 @@ is_new n (Pair u v) = not (has_link n.trace u v) && not (has_link n.trace v u)
 
 -- a script line more is allowed
 abbrev pub has_script_room : DraftedNetwork → Bool
-has_script_room n = nat_lt n.scripted MOST_SCRIPT_LINES
+has_script_room n = nat_lt n.scripted n.most
 
 -- there are not too many nodes or script lines yet
 abbrev pub has_room : DraftedNetwork → NetworkLine → Bool

@@ -5,14 +5,14 @@ use Rattle.std.specs.List.{AllPairs}
 use Rattle.std.specs.Ordering.{nat_cmp, ordering_then}
 use Rattle.std.specs.declared.cmp.Ordering.{Ordering}
 use Rattle.lwb_base.specs.Profile.{IsProfile}
-use Rattle.lwb_base.specs.declared.limits.TheConstants.{DRIFT_BOUND, GREATEST_ID, MOST_BOOTS, MOST_FRAMES, MOST_NODES, MOST_RANKS, MOST_SCRIPT_LINES}
+use Rattle.lwb_base.specs.declared.limits.TheConstants.{DRIFT_BOUND, GREATEST_ID, MOST_BOOTS, MOST_FRAMES, MOST_NODES, MOST_RANKS}
 use Rattle.bus_rules.specs.States.{payload_of}
 use Rattle.link_trace.specs.Order.{Ascends, by_link, by_loss, by_cut, by_capture}
 use Rattle.scenario_text.specs.FloodParts.{knows}
 use Rattle.scenario_text.specs.ScenarioFacts.{AreEnds, IsStepOf, IsScriptLine, turned}
 use Rattle.scenario_text.specs.ScenarioGrammar.{last_tick}
 use Rattle.scenario_text.specs.ScenarioParts.{ScenarioParts}
-use Rattle.scenario_text.specs.declared.limits.TheConstants.{BUS_NODE_FRAMES}
+use Rattle.scenario_text.specs.declared.limits.TheConstants.{BUS_NODE_FRAMES, BUS_SCRIPT_LINES}
 use Rattle.scenario_text.specs.declared.lines.NodeLine.{NodeLine}
 use Rattle.scenario_text.specs.declared.lines.RateLine.{RateLine}
 
@@ -57,5 +57,5 @@ pub record IsInOrder (s : ScenarioParts) : Type 0 where
   pub script : All (IsScriptLine s) s.script
   pub script_ascends : AllPairs (λ a b. a.frame ≤ b.frame) s.script
   pub payload_bytes : All (λ l. All (λ b. b < 256) (payload_of l.act)) s.script
-  pub few_lines : script_lines s ≤ MOST_SCRIPT_LINES
+  pub few_lines : script_lines s ≤ BUS_SCRIPT_LINES
   pub few_boots : (v : ℕ) → (turned v (false, 0) s.script).1 ≤ MOST_BOOTS

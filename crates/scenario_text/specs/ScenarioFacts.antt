@@ -43,6 +43,7 @@ abbrev pub turned : ℕ → Bool × ℕ → List ScriptLine → Bool × ℕ
 turned v t [] = t
 turned v t (l ∷ ls) = turned v (if l.node == v then turned_by l.act t else t) ls
 
+-- all but its lines of links
 pub record IsSoundScenario (s : ScenarioParts) : Type 0 where
   pub profile : IsProfile s.profile
   pub some_frames : 1 ≤ s.frames
@@ -64,6 +65,12 @@ pub record IsSoundScenario (s : ScenarioParts) : Type 0 where
   pub few_hosts : length s.hosts ≤ MOST_RANKS
   pub hosts_known : All (λ h. knows s.nodes h ≡ true) s.hosts
   pub hosts_differ : AllPairs (λ a b. a ≢ b) s.hosts
+  pub script : All (IsScriptLine s) s.script
+  pub script_ascends : AllPairs (λ a b. a.frame ≤ b.frame) s.script
+  pub few_boots : (v : ℕ) → (turned v (false, 0) s.script).1 ≤ MOST_BOOTS
+
+-- its lines of links: between two of its nodes, in its run, each list in order
+pub record HasSoundLines (s : ScenarioParts) : Type 0 where
   pub links : All (λ l. AreEnds s.nodes l.from l.to) s.trace.links
   pub links_ascend : Ascends by_link s.trace.links
   pub losses : All (λ l. IsStepOf s l.frame l.slot l.step × AreEnds s.nodes l.from l.to) s.trace.losses
@@ -72,6 +79,3 @@ pub record IsSoundScenario (s : ScenarioParts) : Type 0 where
   pub cuts_ascend : Ascends by_cut s.trace.cuts
   pub captures : All (λ l. IsStepOf s l.frame l.slot l.step × AreEnds s.nodes l.at l.from) s.trace.captures
   pub captures_ascend : Ascends by_capture s.trace.captures
-  pub script : All (IsScriptLine s) s.script
-  pub script_ascends : AllPairs (λ a b. a.frame ≤ b.frame) s.script
-  pub few_boots : (v : ℕ) → (turned v (false, 0) s.script).1 ≤ MOST_BOOTS

@@ -7,7 +7,7 @@ use Rattle.std.specs.Option.{option_map_or}
 use Rattle.std.specs.Str.Lines.{lines}
 use Rattle.lwb_base.specs.Profile.{Numbers, one, contended}
 use Rattle.lwb_base.specs.Messages.{greatest_slot}
-use Rattle.lwb_base.specs.declared.limits.TheConstants.{LAST_RANK, LAST_STEP, MOST_BOOTS, MOST_FRAMES, PLACES_BY_ID}
+use Rattle.lwb_base.specs.declared.limits.TheConstants.{LAST_RANK, LAST_STEP, MOST_BOOTS, MOST_FRAMES, MOST_SCRIPT_LINES, PLACES_BY_ID}
 use Rattle.link_trace.specs.Passes.{Lines}
 use Rattle.scenario_text.specs.FloodParts.{knows}
 use Rattle.scenario_text.specs.ScenarioParts.{ScenarioParts}
@@ -23,7 +23,8 @@ use Rattle.text_readers.specs.declared.fault.FaultKind.TheVariants.{Range, Unkno
 use Rattle.scenario_text.specs.declared.scenario_line.ScenarioLine.{ScenarioLine}
 use Rattle.scenario_text.specs.declared.scenario_line.ScenarioLine.TheVariants.{InNetwork, Profile, Contend, Frames, Host, Script}
 use Rattle.scenario_text.specs.declared.scenario_line.ScenarioLine.TheVariants.{Lose, Cut, Capture}
-use Rattle.scenario_text.specs.declared.limits.TheConstants.{RUN_NODE_FRAMES, BUS_NODE_FRAMES}
+use Rattle.scenario_text.specs.declared.limits.Limits.{Limits}
+use Rattle.scenario_text.specs.declared.limits.TheConstants.{RUN_NODE_FRAMES, BUS_NODE_FRAMES, BUS_SCRIPT_LINES}
 use Rattle.scenario_text.specs.declared.script.ScriptLine.{ScriptLine}
 use Rattle.bus_rules.specs.declared.act.Act.{Act}
 use Rattle.bus_rules.specs.declared.act.Act.TheVariants as act
@@ -56,9 +57,10 @@ pub record Scenario : Type 0 where
   pub on : List Bool
   pub boots : List ℕ
 
-abbrev pub no_scenario : Scenario
-no_scenario = record {
-  network = no_network;
+-- no line, with the most script lines that there may be
+abbrev pub no_scenario : ℕ → Scenario
+no_scenario most = record {
+  network = no_network most;
   first = true;
   after_two = false;
   profile = one;
@@ -248,20 +250,27 @@ abbrev pub whole_within : ℕ → Scenario → Result ScenarioParts FaultKind
 whole_within most d = finished_parts most d (network_parts d.network d.network.sends) d.frames
 
 -- what the lines say, or their first fault and its line. What is missing is missing after the last line
-abbrev pub scenario_of_lines : ℕ → List (List ℕ) → Result ScenarioParts (ℕ × FaultKind)
-scenario_of_lines most ls = do
-  d ← draft_after_lines (draft_after_line scenario_after_words) 1 no_scenario ls
-  in_line (length ls + 1) (whole_within most d)
+abbrev pub scenario_of_lines : Limits → List (List ℕ) → Result ScenarioParts (ℕ × FaultKind)
+scenario_of_lines limits ls = do
+  d ← draft_after_lines (draft_after_line scenario_after_words) 1 (no_scenario limits.script_lines) ls
+  in_line (length ls + 1) (whole_within limits.node_frames d)
 
-abbrev pub scenario_within : ℕ → List ℕ → Result ScenarioParts (ℕ × FaultKind)
-scenario_within most bytes = scenario_of_lines most (lines bytes)
+abbrev pub scenario_within : Limits → List ℕ → Result ScenarioParts (ℕ × FaultKind)
+scenario_within limits bytes = scenario_of_lines limits (lines bytes)
 
--- what the bytes say that are to be run, and what they say over the long horizon, that of the bus alone
+-- the limits of a text that is to be run, and those of the long horizon
+abbrev pub run_limits : Limits
+run_limits = record { node_frames = RUN_NODE_FRAMES; script_lines = MOST_SCRIPT_LINES }
+
+abbrev pub long_limits : Limits
+long_limits = record { node_frames = BUS_NODE_FRAMES; script_lines = BUS_SCRIPT_LINES }
+
+-- what the bytes say that are to be run, and what they say over the long horizon
 abbrev pub scenario_of : List ℕ → Result ScenarioParts (ℕ × FaultKind)
-scenario_of bytes = scenario_within RUN_NODE_FRAMES bytes
+scenario_of bytes = scenario_within run_limits bytes
 
 abbrev pub long_scenario_of : List ℕ → Result ScenarioParts (ℕ × FaultKind)
-long_scenario_of bytes = scenario_within BUS_NODE_FRAMES bytes
+long_scenario_of bytes = scenario_within long_limits bytes
 
 -- some text says it over the long horizon
 abbrev pub IsScenario : ScenarioParts → Type 0

@@ -9,6 +9,7 @@ ghost use Rattle.scenario_text.specs.PartsInOrder.{script_lines};
 ghost use Rattle.bus_rules.specs.States.{payload_of};
 ghost use Rattle.scenario_text.specs.ScenarioFacts.{IsScriptLine};
 ghost use Rattle.scenario_text.specs.ScenarioGrammar.{IsScenario};
+ghost use Rattle.scenario_text.specs.declared.limits.TheConstants.{BUS_SCRIPT_LINES};
 ghost use Rattle.scenario_text.specs.ScenarioParts.{ScenarioParts};
 
 use crate::boots::has_few_boots;
@@ -22,7 +23,7 @@ use std::alloc::Global;
 /// The scenario with these lines added to its script, each after all lines of its frame that are there already, and in the
 /// order given. They are known nodes' lines in ascending frames below the number of frames. Returns `None` if and only
 /// if a text would be rejected for the result's number of lines: a node would boot more than `MOST_BOOTS` times, or there would be
-/// more than 20,000 script lines of all kinds.
+/// more than `MOST_SCRIPT_LINES` script lines of all kinds.
 pub fn with_script(
     alloc: Global,
     s: &Scenario,
@@ -36,13 +37,23 @@ pub fn with_script(
     ensures none { IfOk result (λ o. IfNone o ((t : ScenarioParts) → IsWithScript s.now added.now t → HasRoom t → ⊥)) }
 {
     let script = merged(alloc, s.script(), added)?;
-    if script.len() > script_room(s) {
+    if other_lines(s) + script.len() > MOST_SCRIPT_LINES {
         return Ok(None);
     }
     if !has_few_boots(&script) {
         return Ok(None);
     }
     Ok(Some(with_own_script(alloc, s, script)?))
+}
+
+/// A copy of the scenario.
+pub fn copy_of(alloc: Global, s: &Scenario) -> Result<Scenario, Memory>
+    ensures said { IsScenario s.now }
+    ensures copy { IfOk result (λ t. t ≡ s.now) }
+{
+    let mut script = Vec::new(alloc);
+    copy_lines(&mut script, s.script())?;
+    with_own_script(alloc, s, script)
 }
 
 // The scenario with this script in place of its own.
@@ -79,17 +90,14 @@ fn sealed_trace(alloc: Global, s: &Scenario) -> Result<Trace, Memory>
     Ok(trace)
 }
 
-// How many lines of the script may be next to the other script lines of the scenario.
-fn script_room(s: &Scenario) -> usize
-    ensures { result + script_lines s.now ≡ MOST_SCRIPT_LINES + length s.now.script }
+// How many script lines the scenario has next to those of its script.
+fn other_lines(s: &Scenario) -> usize
+    requires { IsScenario s.now }
+    ensures count { result + length s.now.script ≡ script_lines s.now }
+    ensures few { result ≤ BUS_SCRIPT_LINES }
 {
     let trace = s.trace();
-    let script = s.script().len();
-    let others = s.rates().len()
-        + trace.losses().len()
-        + trace.cuts().len()
-        + trace.captures().len();
-    MOST_SCRIPT_LINES - (script + others) + script
+    s.rates().len() + trace.losses().len() + trace.cuts().len() + trace.captures().len()
 }
 
 // The lines of both by frame, and of each frame the old ones first.

@@ -11,7 +11,7 @@ use crate::flood_line::FloodLine;
 use crate::known_nodes::is_id;
 use crate::network_draft::NetworkDraft;
 use crate::{FaultKind, FloodText};
-use lwb_base::{LAST_STEP, Memory, NodeId};
+use lwb_base::{LAST_STEP, MOST_SCRIPT_LINES, Memory, NodeId};
 use std::alloc::Global;
 use std::marker::Model;
 use text_readers::{Draft, Refusal};
@@ -47,7 +47,7 @@ impl FloodDraft {
         ensures { result ≡ no_flood }
     {
         FloodDraft {
-            network: NetworkDraft::new(alloc),
+            network: NetworkDraft::new(alloc, MOST_SCRIPT_LINES as u32),
             start: None,
         }
     }

@@ -18,7 +18,7 @@ use crate::rates::{by_node, is_later, ppm};
 use crate::sealing::seal;
 use crate::{FaultKind, NodeLine, RateLine};
 use link_trace::Trace;
-use lwb_base::{DRIFT_BOUND, MOST_NODES, MOST_RANKS, MOST_SCRIPT_LINES, Memory, NodeId};
+use lwb_base::{DRIFT_BOUND, MOST_NODES, MOST_RANKS, Memory, NodeId};
 use std::alloc::Global;
 use std::marker::Model;
 use text_readers::Refusal;
@@ -31,6 +31,8 @@ pub struct NetworkDraft {
     rates: Vec<RateLine>,
     trace: Trace,
     scripted: u32,
+    // The most script lines that there may be.
+    most: u32,
 }
 
 impl Model for NetworkDraft {
@@ -38,13 +40,13 @@ impl Model for NetworkDraft {
 
     ghost Value = { DraftedNetwork };
 
-    ghost view = { λ d. record { sends = d.sends; nodes = d.nodes.items; rates = d.rates.items; trace = d.trace.lines; scripted = d.scripted } };
+    ghost view = { λ d. record { sends = d.sends; nodes = d.nodes.items; rates = d.rates.items; trace = d.trace.lines; scripted = d.scripted; most = d.most } };
 }
 
 impl NetworkDraft {
-    /// A draft of no lines. It takes no memory.
-    pub fn new(alloc: Global) -> NetworkDraft
-        ensures { result ≡ no_network }
+    /// A draft of no lines, with the most script lines that there may be. It takes no memory.
+    pub fn new(alloc: Global, most_script_lines: u32) -> NetworkDraft
+        ensures { result ≡ no_network most_script_lines }
     {
         NetworkDraft {
             sends: None,
@@ -52,6 +54,7 @@ impl NetworkDraft {
             rates: Vec::new(alloc),
             trace: Trace::new(alloc),
             scripted: 0,
+            most: most_script_lines,
         }
     }
 
@@ -199,7 +202,7 @@ impl NetworkDraft {
         ensures fault { Refuses result (first_fault ((has_script_room self.old, TooMany) ∷ [])) }
         ensures added { OnOk result (self.new ≡ with_script_line self.old self.old.trace) }
     {
-        if self.scripted >= MOST_SCRIPT_LINES as u32 {
+        if self.scripted >= self.most {
             return Err(Refusal::Fault(FaultKind::TooMany));
         }
         self.scripted += 1;

@@ -1,8 +1,10 @@
 //! Writes the canonical text of a scenario.
 
 ghost use Rattle.std.specs.Prelude.{◌≡◌, ◌≤◌, ◌*◌, ◌++◌, Ok, IfOk, OnOk, length, string_bytes, codes, [], ◌∷◌, flat_map};
+ghost use Rattle.lwb_base.specs.declared.limits.TheConstants.{MOST_SCRIPT_LINES};
 ghost use Rattle.text_writers.specs.Lines.{line_text, render, numbered};
 ghost use Rattle.scenario_text.specs.ScenarioGrammar.{scenario_of, long_scenario_of, IsScenario};
+ghost use Rattle.scenario_text.specs.PartsInOrder.{script_lines};
 ghost use Rattle.scenario_text.specs.declared.limits.TheConstants.{RUN_NODE_FRAMES};
 ghost use Rattle.scenario_text.specs.Canonical.{canonical, profile_number, contend_lines, loss_words, cut_words, capture_words};
 
@@ -18,12 +20,13 @@ use text_writers::write_line;
 
 /// The canonical text of a scenario: one space between words, a line feed after each line, the lines in one order,
 /// and each number and payload in its one spelling. Parsed again by `parse_long` it gives the same scenario, and by `parse`
-/// too, where nodes times frames is at most `RUN_NODE_FRAMES`.
-#[tactic(auto, using(crate::proofs::SaidParts::says_again, crate::proofs::SaidParts::says_again_to_run))]
+/// too, where nodes times frames is at most `RUN_NODE_FRAMES`, and there are at most `MOST_SCRIPT_LINES` script lines.
+#[tactic(auto, using(crate::proofs::SaidParts::says_again, crate::proofs::Horizons::says_again_to_run))]
 pub fn print(alloc: Global, s: &Scenario) -> Result<String, Memory>
     ensures text { IfOk result (λ text. string_bytes text ≡ canonical s.now) }
     ensures back { IfOk result (λ text. long_scenario_of (string_bytes text) ≡ Ok s.now) }
-    ensures run { IfOk result (λ text. length s.now.nodes * s.now.frames ≤ RUN_NODE_FRAMES → scenario_of (string_bytes text) ≡ Ok s.now) }
+    ensures run { IfOk result (λ text. length s.now.nodes * s.now.frames ≤ RUN_NODE_FRAMES → script_lines s.now ≤ MOST_SCRIPT_LINES
+        → scenario_of (string_bytes text) ≡ Ok s.now) }
 {
     Ok(text_of(alloc, s)?)
 }

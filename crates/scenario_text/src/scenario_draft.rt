@@ -68,12 +68,12 @@ impl Draft for ScenarioDraft {
 }
 
 impl ScenarioDraft {
-    /// A draft of no lines. It takes no memory.
-    pub fn new(alloc: Global) -> ScenarioDraft
-        ensures { result ≡ no_scenario }
+    /// A draft of no lines, with the most script lines that there may be. It takes no memory.
+    pub fn new(alloc: Global, most_script_lines: u32) -> ScenarioDraft
+        ensures { result ≡ no_scenario most_script_lines }
     {
         ScenarioDraft {
-            network: NetworkDraft::new(alloc),
+            network: NetworkDraft::new(alloc, most_script_lines),
             first: true,
             after_two: false,
             profile: Profile::one(),

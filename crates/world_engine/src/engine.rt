@@ -1,4 +1,4 @@
-//! The engine: the nodes of a scenario in true time.
+//! The engine: the nodes of a scenario in true time, over its own links or others.
 
 ghost use Rattle.std.specs.Prelude.{◌≡◌, ◌≤◌, false, IfOk, OnOk, length, replicate, option_copied};
 ghost use Rattle.lwb_base.specs.declared.limits.TheConstants.{MOST_NODES};
@@ -13,9 +13,10 @@ use crate::frames::FrameCounts;
 use air_log::{Air, Idle, NodeCharge};
 use bus_rules::{Delivery, DropLine};
 use event_calendar::Orders;
+use link_trace::Links;
 use lwb_base::{Memory, NodeId};
 use node_core::Node;
-use scenario_text::Scenario;
+use scenario_text::ScenarioOver;
 use std::alloc::Global;
 use std::marker::Model;
 use tick_clock::DriftClock;
@@ -23,8 +24,8 @@ use tick_clock::DriftClock;
 /// The nodes of a scenario over one radio medium in true time: a node core, a radio and a drifting clock each. Contracts
 /// see what the run has left, and the clocks by ascending ids of the nodes.
 #[derive(Drop)]
-pub struct Engine<'a, C: DriftClock> {
-    pub(crate) scenario: &'a Scenario,
+pub struct Engine<'a, C: DriftClock, M: Links> {
+    pub(crate) scenario: ScenarioOver<'a, M>,
     pub(crate) clocks: Vec<C>,
     pub(crate) ran: bool,
     pub(crate) field: Field,
@@ -33,7 +34,7 @@ pub struct Engine<'a, C: DriftClock> {
     pub(crate) idle: Vec<Idle>,
 }
 
-impl<'a, C: DriftClock> Model for Engine<'a, C> {
+impl<'a, C: DriftClock, M: Links> Model for Engine<'a, C, M> {
     ghost use Rattle.std.specs.Prelude.{List, ◌≡◌, length, map};
     ghost use Rattle.world_engine.specs.Worlds.{WorldState};
     ghost use Rattle.world_engine.specs.WorldShapes.{IsWorld};
@@ -43,7 +44,7 @@ impl<'a, C: DriftClock> Model for Engine<'a, C> {
 
     ghost view = { λ w. (
       record {
-        scenario = w.scenario.now;
+        scenario = w.scenario;
         ran = w.ran;
         air = w.field.air;
         deliveries = w.deliveries.items;
@@ -55,21 +56,26 @@ impl<'a, C: DriftClock> Model for Engine<'a, C> {
       w.clocks.items,
     ) };
 
-    ghost invariant = { λ w. IsWorld w.scenario.now w.ran w.field w.deliveries.items (length w.clocks.items) };
+    ghost invariant = { λ w. IsWorld w.scenario w.ran w.field w.deliveries.items (length w.clocks.items) };
 }
 
-impl<'a, C: DriftClock> Engine<'a, C> {
-    /// The engine of a scenario before its run, with one clock for each node by ascending ids. With `Memory` the clocks are
-    /// dropped.
-    pub fn new(alloc: Global, s: &'a Scenario, clocks: Vec<C>) -> Result<Engine<'a, C>, Memory>
-        requires { length clocks.items ≡ length s.now.nodes }
-        ensures { IfOk result (λ w. w ≡ (new_world s.now, clocks.items)) }
+impl<'a, C: DriftClock, M: Links> Engine<'a, C, M> {
+    /// The engine of a scenario over links before its run, with one clock for each node by ascending ids. With `Memory` the
+    /// clocks are dropped.
+    pub fn new(
+        alloc: Global,
+        s: ScenarioOver<'a, M>,
+        clocks: Vec<C>,
+    ) -> Result<Engine<'a, C, M>, Memory>
+        requires { length clocks.items ≡ length s.nodes }
+        ensures { IfOk result (λ w. w ≡ (new_world s.entry, clocks.items)) }
     {
+        let field = Field::new(alloc, &s)?;
         Ok(Engine {
             scenario: s,
             clocks,
             ran: false,
-            field: Field::new(alloc, s)?,
+            field,
             deliveries: Vec::new(alloc),
             charges: Vec::new(alloc),
             idle: Vec::new(alloc),
@@ -90,7 +96,7 @@ impl<'a, C: DriftClock> Engine<'a, C> {
         let profile = self.scenario.profile();
         self.ran = true;
         let clocks = self.clocks.as_slice();
-        let counts = self.field.frames(alloc, orders, self.scenario, clocks)?;
+        let counts = self.field.frames(alloc, orders, &self.scenario, clocks)?;
         let FrameCounts { scanned, idle } = counts;
         let end = u64::from(self.scenario.frames()) * profile.frame();
         self.field.close(end)?;

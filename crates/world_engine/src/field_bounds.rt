@@ -12,16 +12,17 @@ use crate::deliveries::sort_deliveries;
 use crate::field::Field;
 use air_log::{Air, Device};
 use bus_rules::{Delivery, DropLine};
+use link_trace::Links;
 use lwb_base::{Memory, NodeId};
 use radio_model::Medium;
-use scenario_text::Scenario;
+use scenario_text::ScenarioOver;
 use scenario_text::known_nodes::ids;
 use std::alloc::Global;
 use std::mem;
 
 impl Field {
     // All nodes are off, and nothing has happened.
-    pub(crate) fn new(alloc: Global, s: &Scenario) -> Result<Field, Memory>
+    pub(crate) fn new<M: Links>(alloc: Global, s: &ScenarioOver<'_, M>) -> Result<Field, Memory>
         ensures { IfOk result (λ w. IsFirstField s.now w) }
     {
         let profile = s.profile();
@@ -111,7 +112,7 @@ impl Field {
     }
 }
 
-fn devices(alloc: Global, s: &Scenario) -> Result<Vec<Device>, Memory>
+fn devices<M: Links>(alloc: Global, s: &ScenarioOver<'_, M>) -> Result<Vec<Device>, Memory>
     ensures { IfOk result (λ v. v.items ≡ map (first_device s.now) s.now.nodes) }
 {
     let profile = s.profile();

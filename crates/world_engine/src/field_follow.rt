@@ -77,7 +77,9 @@ fn is_same_channel(from: &Option<Rank>, to: &Option<Rank>) -> bool
     }
 }
 
-// The tick of a class at the place is another, or none, unless it stays.
+// The tick of a class at the place is another, or none, unless it stays. Mostly it stays, and to call this took longer than to see
+// that.
+#[inline(always)]
 fn reset<Q: Orders>(orders: &mut Q, place: u8, class: Class, from: Option<u64>, to: Option<u64>)
     requires { place < length (Q.map orders.old) }
     ensures { Resets place class from to (Q.map orders.old) (Q.map orders.new) }

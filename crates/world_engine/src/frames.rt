@@ -17,8 +17,9 @@ use crate::field::Field;
 use crate::field_counts::none_scanned;
 use air_log::{EventRadio, Idle};
 use event_calendar::{Class, Orders};
+use link_trace::Links;
 use lwb_base::Memory;
-use scenario_text::{Scenario, ScriptLine};
+use scenario_text::{ScenarioOver, ScriptLine};
 use std::alloc::Global;
 use tick_clock::DriftClock;
 
@@ -31,11 +32,11 @@ pub(crate) struct FrameCounts {
 
 impl Field {
     // All frames. What is given and what is due in a frame is done before the next one begins.
-    pub(crate) fn frames<C: DriftClock, Q: Orders>(
+    pub(crate) fn frames<C: DriftClock, Q: Orders, M: Links>(
         &mut self,
         alloc: Global,
         orders: &mut Q,
-        s: &Scenario,
+        s: &ScenarioOver<'_, M>,
         clocks: &[C],
     ) -> Result<FrameCounts, Memory>
         requires sound { IsSoundScenario s.now }
@@ -60,10 +61,10 @@ impl Field {
     }
 
     // The script lines of a frame, of which this is the first. It gives back the first of a later frame.
-    fn lines<C: DriftClock, Q: Orders>(
+    fn lines<C: DriftClock, Q: Orders, M: Links>(
         &mut self,
         orders: &mut Q,
-        s: &Scenario,
+        s: &ScenarioOver<'_, M>,
         clocks: &[C],
         frame: u32,
         first: usize,
@@ -95,10 +96,10 @@ impl Field {
     }
 
     // The next line of the script is given at tick t.
-    fn line<C: DriftClock, Q: Orders>(
+    fn line<C: DriftClock, Q: Orders, M: Links>(
         &mut self,
         orders: &mut Q,
-        s: &Scenario,
+        s: &ScenarioOver<'_, M>,
         clocks: &[C],
         t: u64,
         line: &ScriptLine,
@@ -119,10 +120,10 @@ impl Field {
     }
 
     // All that is due in a frame, by tick, class and place.
-    fn events<C: DriftClock, Q: Orders>(
+    fn events<C: DriftClock, Q: Orders, M: Links>(
         &mut self,
         orders: &mut Q,
-        s: &Scenario,
+        s: &ScenarioOver<'_, M>,
         clocks: &[C],
         frame: u32,
         radio: &mut EventRadio,
@@ -147,10 +148,10 @@ impl Field {
     }
 
     // What is due next: at a tick, of a class, at a place.
-    fn event<C: DriftClock, Q: Orders>(
+    fn event<C: DriftClock, Q: Orders, M: Links>(
         &mut self,
         orders: &mut Q,
-        s: &Scenario,
+        s: &ScenarioOver<'_, M>,
         clocks: &[C],
         due: (u64, Class, u8),
         radio: &mut EventRadio,
@@ -168,7 +169,7 @@ impl Field {
     {
         let (t, class, place) = due;
         match class {
-            Class::SendingEnd => self.end(orders, s.trace(), clocks, place, t, radio),
+            Class::SendingEnd => self.end(orders, s.links(), clocks, place, t, radio),
             Class::Alarm => self.alarm(orders, &clocks[usize::from(place)], place, t, radio),
             Class::SendingStart => self.begin(orders, place, t),
         }

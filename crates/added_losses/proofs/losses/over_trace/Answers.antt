@@ -4,7 +4,7 @@ use Rattle.link_trace.specs.Sealed.{Traced}
 use Rattle.scenario_text.specs.Canonical.{IsSaid}
 use Rattle.scenario_text.specs.declared.script.ScriptLine.{ScriptLine}
 use Rattle.scenario_text.proofs.LinesAdded.{same_parts}
-use Rattle.bus_terms.specs.OverLines.{over}
+use Rattle.scenario_text.specs.OverLines.{over}
 use Rattle.added_losses.proofs.losses.over_trace.Goals as goal
 
 pub of_parts-requires-clause-said : goal.of_parts-requires-clause-said

@@ -5,7 +5,7 @@ use Rattle.link_trace.specs.declared.lines.LoseLine.{LoseLine}
 use Rattle.scenario_text.specs.ScenarioParts.{ScenarioParts}
 use Rattle.bus_terms.specs.Bus.{state_at}
 use Rattle.bus_terms.specs.FloodOfText.{ids}
-use Rattle.bus_terms.specs.OverLines.{over}
+use Rattle.scenario_text.specs.OverLines.{over}
 use Rattle.plain_bus.specs.FloodMasks.{traced}
 use Rattle.plain_bus.specs.RunFloods.{AreRunFloods, HasRun}
 use Rattle.plain_bus.specs.declared.station.Flood.{Flood}

@@ -1,6 +1,6 @@
 use Rattle.std.proofs.Common.{◌≡◌, flat_map}
 use Rattle.std.specs.List.{range_with_len}
-use Rattle.bus_terms.specs.OverLines.{over}
+use Rattle.scenario_text.specs.OverLines.{over}
 use Rattle.bus_model.specs.RunningBuses.{IsBeforeFrame}
 use Rattle.drawn_losses.specs.StepLosses.{losses_of_frame}
 use Rattle.drawn_losses.proofs.run_losses.losses_in_run.Given as goal

@@ -1,6 +1,6 @@
-use Rattle.std.proofs.Common.{◌≡◌, ◌<◌, ◌+◌, ℕ, length, subst, sym, ◌∙◌, arith}
+use Rattle.std.proofs.Common.{◌≡◌, ◌+◌, ℕ, length, subst, sym, ◌∙◌, arith}
 use Rattle.link_trace.specs.Masks.{IsMaskUpto}
-use Rattle.link_trace.proofs.MaskBits.{one_set, one_unset}
+use Rattle.link_trace.proofs.MaskBits.{one_with, one_without}
 use Rattle.plain_bus.proofs.SteppedByMasks.{no_station}
 use Rattle.drawn_bus.specs.KeptLosses.{flood_over, receives_otherwise}
 use Rattle.drawn_losses.proofs.step_losses.changed_nodes.Goals as goal
@@ -17,15 +17,15 @@ loop-place-preserved g c x flood known at =
     let i = c.loop-place.place in
     let fl = c.args.flood.now in
     let test : ℕ → _ = λ v. receives_otherwise x (flood_over (g.B.Links.lines c.args.base.now) fl.frame fl.slot x) c.args.step v in
-    let below : i < length nodes = omega (arith, c.loop-place-test.true, c.len-place-end.ensures.value, c.requires.sealed) in
     let is = c.receives_otherwise.ensures x flood known at in
     elim c.if-receives_otherwise.branch [
       | then-receives_otherwise w ↦
           subst (λ (m : ℕ). IsMaskUpto test nodes (i + 1) m) (sym w.changed-is)
-          (one_set nodes c.requires.few test i c.loop-place.changed below (c.loop-place.invariant x flood known at) (sym is ∙ w.if-receives_otherwise.true))
+          (one_with nodes test i c.loop-place.changed (c.loop-place.invariant x flood known at) w.with-changed.result w.with-changed.ensures.set
+          w.with-changed.ensures.others (sym is ∙ w.if-receives_otherwise.true))
       | else-receives_otherwise w ↦
           subst (λ (m : ℕ). IsMaskUpto test nodes (i + 1) m) (sym w.changed-is)
-          (one_unset nodes c.requires.few test i c.loop-place.changed below (c.loop-place.invariant x flood known at) (sym is ∙ w.if-receives_otherwise.false))
+          (one_without nodes test i c.loop-place.changed (c.loop-place.invariant x flood known at) (sym is ∙ w.if-receives_otherwise.false))
     ]
 
 pub returns : goal.returns

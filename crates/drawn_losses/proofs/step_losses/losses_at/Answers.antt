@@ -2,12 +2,12 @@ use Rattle.std.proofs.Common.{◌≡◌, ◌<◌, ◌++◌, ◌&&◌, not, ℕ, 
 use Rattle.std.proofs.lemmas.List.{take_all}
 use Rattle.link_trace.specs.Masks.{IsMask}
 use Rattle.link_trace.specs.Passes.{passes}
-use Rattle.link_trace.proofs.MaskBits.{same_tests}
+use Rattle.link_trace.proofs.MaskBits.{in_both, same_tests}
 use Rattle.bus_terms.specs.Flooding.{moment}
 use Rattle.drawn_bus.specs.FloodLosses.{is_lost_in}
 use Rattle.drawn_bus.specs.KeptLosses.{flood_over, receives_otherwise}
 use Rattle.drawn_losses.specs.StepLosses.{losses_by}
-use Rattle.drawn_losses.proofs.LossesFound.{both_masks, together_more}
+use Rattle.drawn_losses.proofs.LossesFound.{together_more}
 use Rattle.drawn_losses.proofs.step_losses.losses_at.Goals as goal
 
 pub loop-place-init : goal.loop-place-init
@@ -32,10 +32,10 @@ loop-place-preserved g c x flood at changed =
     c.lost_from-lost.result (λ v. ap (λ (b : Bool). sent && (passes base f j k u v && not b)) (sym (flood.links k u v)))
     (c.lost_from-lost.ensures (λ w. is_some ((moment x k).sends w)) at.senders) in
     let mask : IsMask (is_lost_in base f j x k u) nodes (bit_and c.lost_from-lost.result c.args.changed) =
-    both_masks (λ v. sent && (passes base f j k u v && not (x.passes k u v))) otherwise nodes c.lost_from-lost.result c.args.changed lost changed in
+    in_both nodes (λ v. sent && (passes base f j k u v && not (x.passes k u v))) otherwise c.lost_from-lost.result c.args.changed lost changed in
     together_more (losses_by base f j nodes x k) nodes i c.args.lines.now.items c.loop-place.lines.items c.add_losses.new.lines.items below
     (c.loop-place.invariant x flood at changed)
-    (c.in_ok-add_losses.ensures (moment x k) nodes (is_lost_in base f j x k u) at.each mask)
+    (c.in_ok-add_losses.ensures (moment x k) nodes (is_lost_in base f j x k u) at.each (rw c.and.ensures mask))
 
 pub returns : goal.returns
 returns g c x flood at changed =

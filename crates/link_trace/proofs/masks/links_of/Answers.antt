@@ -2,7 +2,7 @@ use Rattle.std.proofs.Common.{◌≡◌, ◌+◌, ℕ, get_or, ap, sym, ◌∙�
 use Rattle.std.proofs.lemmas.List.{get_or_default}
 use Rattle.link_trace.specs.Masks.{IsMaskUpto}
 use Rattle.link_trace.specs.Sides.{is_linked}
-use Rattle.link_trace.proofs.MaskBits.{one_set, one_unset}
+use Rattle.link_trace.proofs.MaskBits.{one_with, one_without}
 use Rattle.link_trace.proofs.masks.links_of.Goals as goal
 use Rattle.link_trace.proofs.masks.links_of.Goals.{then-has_link_on, else-has_link_on}
 
@@ -17,8 +17,9 @@ loop-i-preserved c =
     elim c.if-has_link_on.branch [
       | then-has_link_on w ↦
           subst (λ (m : ℕ). IsMaskUpto test nodes (i + 1) m) (sym w.mask-is)
-          (one_set nodes c.requires.few test i c.loop-i.mask inside c.loop-i.invariant (answer ∙ w.if-has_link_on.true))
+          (one_with nodes test i c.loop-i.mask c.loop-i.invariant w.with-mask.result w.with-mask.ensures.set w.with-mask.ensures.others
+          (answer ∙ w.if-has_link_on.true))
       | else-has_link_on w ↦
           subst (λ (m : ℕ). IsMaskUpto test nodes (i + 1) m) (sym w.mask-is)
-          (one_unset nodes c.requires.few test i c.loop-i.mask inside c.loop-i.invariant (answer ∙ w.if-has_link_on.false))
+          (one_without nodes test i c.loop-i.mask c.loop-i.invariant (answer ∙ w.if-has_link_on.false))
     ]

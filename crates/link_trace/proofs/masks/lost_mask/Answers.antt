@@ -11,9 +11,9 @@ use Rattle.link_trace.proofs.masks.lost_mask.Goals as goal
 pub loop-line-preserved : goal.loop-line-preserved
 loop-line-preserved c =
     let by : ℕ → LoseLine → Bool = λ v l. is_lost_by c.args.frame c.args.slot c.args.step c.args.side.now v l in
-    one_more_line c.args.nodes.now by c.of_slots-of_slot.result.now c.loop-line.line-index
-    c.line-item.result c.loop-line.mask c.lost_by-mask.result c.loop-line-test.true c.loop-line.invariant
-    (subst (λ (l : LoseLine). IsMask (λ v. by v l) c.args.nodes.now c.lost_by-mask.result) c.line-item.is c.lost_by-mask.ensures)
+    rw c.or-mask.ensures (one_more_line c.args.nodes.now by c.of_slots-of_slot.result.now c.loop-line.line-index
+    c.line-item.result c.loop-line.mask c.lost_by.result c.loop-line-test.true c.loop-line.invariant
+    (subst (λ (l : LoseLine). IsMask (λ v. by v l) c.args.nodes.now c.lost_by.result) c.line-item.is c.lost_by.ensures))
 
 pub returns : goal.returns
 returns c =

@@ -2,7 +2,7 @@ use Rattle.std.proofs.Common.{◌≡◌, ◌<◌, ◌≤◌, ◌+◌, ◌==◌, 
 use Rattle.std.proofs.lemmas.List.{get_or-map, length-map}
 use Rattle.lwb_base.specs.declared.limits.TheConstants.{MOST_NODES}
 use Rattle.link_trace.specs.Masks.{IsMaskUpto}
-use Rattle.link_trace.proofs.MaskBits.{one_set, one_unset}
+use Rattle.link_trace.proofs.MaskBits.{one_with, one_without}
 use Rattle.scenario_text.specs.declared.lines.NodeLine.{NodeLine}
 use Rattle.bus_terms.specs.FloodOfText.{ids}
 use Rattle.plain_bus.proofs.accepting.mask_of.Goals as goal
@@ -23,8 +23,9 @@ loop-i-preserved c =
     elim c.if-eq.branch [
       | then-eq w ↦
           subst (λ (m : ℕ). IsMaskUpto test (ids lines) (i + 1) m) (sym w.mask-is)
-          (one_set (ids lines) few test i c.loop-i.mask below c.loop-i.invariant (answer ∙ w.if-eq.true))
+          (one_with (ids lines) test i c.loop-i.mask c.loop-i.invariant w.with-mask.result w.with-mask.ensures.set w.with-mask.ensures.others
+          (answer ∙ w.if-eq.true))
       | else-eq w ↦
           subst (λ (m : ℕ). IsMaskUpto test (ids lines) (i + 1) m) (sym w.mask-is)
-          (one_unset (ids lines) few test i c.loop-i.mask below c.loop-i.invariant (answer ∙ w.if-eq.false))
+          (one_without (ids lines) test i c.loop-i.mask c.loop-i.invariant (answer ∙ w.if-eq.false))
     ]

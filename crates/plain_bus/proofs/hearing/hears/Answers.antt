@@ -40,7 +40,10 @@ returns-in_default g c s m flood known at =
     subst (λ (n : ℕ). AreOffers (offer s m k n) c.as_slice.result.now (bit_and c.from_mask-reaching.result c.args.now.now.senders)) (sym node)
     (subst (λ (l : List Station). AreOffers (offer s m k v) l (bit_and c.from_mask-reaching.result c.args.now.now.senders))
     (sym (c.as_slice.ensures.value ∙ at.each)) offers) in
-    let picked : pick s m k v ≡ c.picked.result = sym (c.picked.ensures s m flood known offered ∙ ap (λ (n : ℕ). pick s m k n) node) in
+    let from_is : bit_and c.from_mask-reaching.result c.args.now.now.senders ≡ c.and-from.result =
+    sym (c.and-from.ensures ∙ ap (λ (n : ℕ). bit_and n c.args.now.now.senders) c.of_word.ensures) in
+    let brought = subst (λ (n : ℕ). AreOffers (offer s m k x.node) c.as_slice.result.now n) from_is offered in
+    let picked : pick s m k v ≡ c.picked.result = sym (c.picked.ensures s m flood known brought ∙ ap (λ (n : ℕ). pick s m k n) node) in
     sym (unreached s m t f k flood known place below (picked ∙ c.in_default.is))
 
 pub returns-then-takes : goal.returns-then-takes
@@ -63,7 +66,10 @@ returns-then-takes g c s m flood known at =
     subst (λ (n : ℕ). AreOffers (offer s m k n) c.as_slice.result.now (bit_and c.from_mask-reaching.result c.args.now.now.senders)) (sym node)
     (subst (λ (l : List Station). AreOffers (offer s m k v) l (bit_and c.from_mask-reaching.result c.args.now.now.senders))
     (sym (c.as_slice.ensures.value ∙ at.each)) offers) in
-    let picked : pick s m k v ≡ c.picked.result = sym (c.picked.ensures s m flood known offered ∙ ap (λ (n : ℕ). pick s m k n) node) in
+    let from_is : bit_and c.from_mask-reaching.result c.args.now.now.senders ≡ c.and-from.result =
+    sym (c.and-from.ensures ∙ ap (λ (n : ℕ). bit_and n c.args.now.now.senders) c.of_word.ensures) in
+    let brought = subst (λ (n : ℕ). AreOffers (offer s m k x.node) c.as_slice.result.now n) from_is offered in
+    let picked : pick s m k v ≡ c.picked.result = sym (c.picked.ensures s m flood known brought ∙ ap (λ (n : ℕ). pick s m k n) node) in
     sym (heard s m t f k flood known place below x c.in-Some.origin is (sym c.may_hear.ensures ∙ c.if-not-may_hear.false) (picked ∙ c.in-Some.is)
     (sym c.takes.ensures ∙ c.if-takes.true))
 
@@ -87,5 +93,8 @@ returns-else-takes g c s m flood known at =
     subst (λ (n : ℕ). AreOffers (offer s m k n) c.as_slice.result.now (bit_and c.from_mask-reaching.result c.args.now.now.senders)) (sym node)
     (subst (λ (l : List Station). AreOffers (offer s m k v) l (bit_and c.from_mask-reaching.result c.args.now.now.senders))
     (sym (c.as_slice.ensures.value ∙ at.each)) offers) in
-    let picked : pick s m k v ≡ c.picked.result = sym (c.picked.ensures s m flood known offered ∙ ap (λ (n : ℕ). pick s m k n) node) in
+    let from_is : bit_and c.from_mask-reaching.result c.args.now.now.senders ≡ c.and-from.result =
+    sym (c.and-from.ensures ∙ ap (λ (n : ℕ). bit_and n c.args.now.now.senders) c.of_word.ensures) in
+    let brought = subst (λ (n : ℕ). AreOffers (offer s m k x.node) c.as_slice.result.now n) from_is offered in
+    let picked : pick s m k v ≡ c.picked.result = sym (c.picked.ensures s m flood known brought ∙ ap (λ (n : ℕ). pick s m k n) node) in
     sym (refused s m t f k flood known place below x c.in-Some.origin is (picked ∙ c.in-Some.is) (sym c.takes.ensures ∙ c.if-takes.false))

@@ -1,8 +1,7 @@
-use Rattle.std.proofs.Common.{◌≡◌, ◌≤◌, ◌+◌, ℕ, Bool, length, ap, sym, ◌∙◌, subst, arith}
+use Rattle.std.proofs.Common.{◌≡◌, ◌+◌, ℕ, Bool, length, ap, sym, ◌∙◌, subst, arith}
 use Rattle.std.proofs.lemmas.List.{length-map}
-use Rattle.lwb_base.specs.declared.limits.TheConstants.{MOST_NODES}
 use Rattle.link_trace.specs.Masks.{IsMaskUpto}
-use Rattle.link_trace.proofs.MaskBits.{one_set, one_unset}
+use Rattle.link_trace.proofs.MaskBits.{one_with, one_without}
 use Rattle.plain_bus.specs.declared.window.Window.{Window}
 use Rattle.plain_bus.proofs.MembersOfSlots.{same_test}
 use Rattle.plain_bus.proofs.SteppedByMasks.{no_station}
@@ -19,14 +18,14 @@ loop-i-preserved c nodes test same =
     let w = c.index-windows-i.result in
     let flag : Window → Bool = λ x. x.takes_part in
     let at = same_test flag ws test nodes i w same c.loop-i-test.true c.index-windows-i.is in
-    let few : length nodes ≤ MOST_NODES = omega (arith, c.requires, length-map ws flag, ap length same, length-map nodes test) in
     elim c.if-window.branch [
       | then-window b ↦
           subst (λ (m : ℕ). IsMaskUpto test nodes (i + 1) m) (sym b.mask-is)
-          (one_set nodes few test i c.loop-i.mask at.0 (c.loop-i.invariant nodes test same) (at.1 ∙ b.if-window.true))
+          (one_with nodes test i c.loop-i.mask (c.loop-i.invariant nodes test same) b.with-mask.result b.with-mask.ensures.set b.with-mask.ensures.others
+          (at.1 ∙ b.if-window.true))
       | else-window b ↦
           subst (λ (m : ℕ). IsMaskUpto test nodes (i + 1) m) (sym b.mask-is)
-          (one_unset nodes few test i c.loop-i.mask at.0 (c.loop-i.invariant nodes test same) (at.1 ∙ b.if-window.false))
+          (one_without nodes test i c.loop-i.mask (c.loop-i.invariant nodes test same) (at.1 ∙ b.if-window.false))
     ]
 
 pub returns : goal.returns

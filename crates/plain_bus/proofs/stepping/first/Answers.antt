@@ -1,11 +1,11 @@
-use Rattle.std.proofs.Common.{◌≡◌, ◌<◌, ◌≤◌, ◌+◌, ◌∷◌, [], ℕ, List, All, length, map, get_or, is_some, subst, sym, ◌∙◌, ap, arith, length-append}
+use Rattle.std.proofs.Common.{◌≡◌, ◌<◌, ◌≤◌, ◌∷◌, [], ℕ, List, All, length, map, get_or, is_some, subst, sym, ◌∙◌, ap, arith, length-append}
 use Rattle.std.proofs.lemmas.List.{take_all, length-map, get_or-map}
 use Rattle.std.proofs.lemmas.List.Elements.{All-push}
 use Rattle.link_trace.specs.Masks.{IsMaskUpto}
 use Rattle.link_trace.specs.Sealed.{Traced}
 use Rattle.scenario_text.specs.declared.lines.NodeLine.{NodeLine}
 use Rattle.bus_terms.specs.Flooding.{Setting, beginning}
-use Rattle.plain_bus.specs.FloodMasks.{IsMaskedFlood, station_at, station_first, with_sender}
+use Rattle.plain_bus.specs.FloodMasks.{IsMaskedFlood, station_at, station_first, AddsSender}
 use Rattle.plain_bus.specs.declared.station.Station.{Station}
 use Rattle.plain_bus.proofs.SteppedByMasks.{begun, one_more_station, one_more_sender, no_station, nobody}
 use Rattle.plain_bus.proofs.stepping.first.Goals as goal
@@ -41,11 +41,9 @@ loop-i-preserved c =
           one_more_station (station_at (beginning s)) t.nodes i y c.loop-i.first.each.items c.push.new.self.each.items (below t sealed)
           (c.loop-i.invariant.each s t sealed flood) (station s t sealed flood) c.push.ensures.each;
       senders = λ s t sealed flood.
-          subst (λ (k : ℕ). IsMaskUpto (λ v. is_some ((beginning s).sends v)) t.nodes (i + 1) k)
-          (sym (c.push.ensures.senders ∙ ap (λ (k : ℕ). with_sender c.loop-i.first.senders k y) c.loop-i.invariant.length))
-          (one_more_sender (λ v. is_some ((beginning s).sends v)) t.nodes i y c.loop-i.first.senders
-          (omega (arith, c.requires.few, ap length sealed, length-map lines (λ (l : NodeLine). l.node))) (below t sealed)
-          (c.loop-i.invariant.senders s t sealed flood) (ap (λ (z : Station). is_some z.sends) (station s t sealed flood)));
+          one_more_sender (λ v. is_some ((beginning s).sends v)) t.nodes i y c.loop-i.first.senders c.push.new.self.senders
+          (subst (λ (k : ℕ). AddsSender c.loop-i.first.senders k y c.push.new.self.senders) c.loop-i.invariant.length c.push.ensures.senders)
+          (c.loop-i.invariant.senders s t sealed flood) (ap (λ (z : Station). is_some z.sends) (station s t sealed flood));
       length = omega (arith, ap length c.push.ensures.each, length-append c.loop-i.first.each.items (y ∷ []), c.loop-i.invariant.length);
       times =
           subst (λ (l : List Station). All (λ (z : Station). z.times ≤ 0) l) (sym c.push.ensures.each)

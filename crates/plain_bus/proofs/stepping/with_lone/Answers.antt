@@ -2,6 +2,7 @@ use Rattle.std.proofs.Common.{◌≡◌, ◌<◌, ℕ, List, length, get_or, sym
 use Rattle.std.proofs.lemmas.List.{get_or-map}
 use Rattle.scenario_text.specs.declared.lines.NodeLine.{NodeLine}
 use Rattle.std.proofs.lemmas.Option.{same_Some}
+use Rattle.std.proofs.lemmas.Bool.{eqb-true}
 use Rattle.plain_bus.proofs.HeardAlone.{only_initiator}
 use Rattle.plain_bus.proofs.stepping.with_lone.Goals as goal
 
@@ -24,6 +25,7 @@ returns-then-from-nodes c s t sealed flood =
       here = flood.here;
       inside = flood.inside;
       lone = λ o v is there.
-          only_initiator s t c.args.flood.now flood place c.without_bit.result c.if-without_bit-eq0.true c.without_bit.ensures.others v there ∙ node
+          only_initiator s t c.args.flood.now flood place c.without.result
+          (eqb-true c.without.result 0 (sym c.is_empty-2.ensures ∙ c.if-is_empty-2.true)) c.without.ensures.others v there ∙ node
           ∙ same_Some named o is;
     }

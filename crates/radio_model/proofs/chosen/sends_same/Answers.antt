@@ -14,7 +14,7 @@ returns-then-eq g c =
     let x = c.args.x.now in
     let st = c.args.station.now in
     let at = c.args.at.now in
-    c.has_bit.ensures
+    c.has.ensures
     ∙ bit_tells nodes (λ v. list_any (repeats lines v) (rivals_in p x st)) c.brought_from.result.same at.place at.node c.brought_from.ensures.same c.requires.at
     ∙ named_sends lines p x st at.node c.args.named (eqb-true st.node c.args.named (sym c.eq.ensures ∙ c.if-eq.true))
 

@@ -4,8 +4,8 @@ use Rattle.radio_model.specs.declared.mark.Mark.{Mark}
 use Rattle.radio_model.proofs.Those.{Picks}
 use Rattle.radio_model.proofs.crowd.strangers.Given as goal
 
-abbrev pub invariant-loop-rest : goal.invariant-loop-rest
-invariant-loop-rest l = (d : Mark) → Picks (λ k. not (comes_close l.opens l.latest l.x l.origin (get_or l.marks k d))) l.places l.strange l.rest
+abbrev pub invariant-loop-origin : goal.invariant-loop-origin
+invariant-loop-origin l = (d : Mark) → Picks (λ k. not (comes_close l.opens l.latest l.x l.origin (get_or l.marks k d))) l.fn.places l.strange l.rest
 
-abbrev pub decreases-loop-rest : goal.decreases-loop-rest
-decreases-loop-rest l = l.rest
+abbrev pub decreases-loop-origin : goal.decreases-loop-origin
+decreases-loop-origin l = l.rest

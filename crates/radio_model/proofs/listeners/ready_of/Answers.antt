@@ -6,7 +6,7 @@ use Rattle.radio_model.specs.Meetings.{is_ready}
 use Rattle.radio_model.specs.Stations.{on_air, fresh}
 use Rattle.radio_model.specs.declared.mark.Mark.{Mark}
 use Rattle.radio_model.specs.declared.station.Station.{Station}
-use Rattle.radio_model.proofs.Those.{all_left, stays, goes, none_left}
+use Rattle.radio_model.proofs.Those.{all_left, stays, goes, is_none, none_left}
 use Rattle.radio_model.proofs.listeners.ready_of.Goals as goal
 use Rattle.radio_model.proofs.listeners.ready_of.Goals.{After-from-i, After-is_ready}
 
@@ -50,26 +50,23 @@ is_ready-requires-clause-mark c =
     (c.requires.marks.each c.from-i.result c.index-stations-i.result c.index-marks-i.result
     (inside (goal.at.is_ready-requires-clause-mark c).After-from-i)))
 
-pub without_bit-ready-requires-clause-set : goal.without_bit-ready-requires-clause-set
-without_bit-ready-requires-clause-set c = (c.loop-rest.invariant (fresh 0 0)).left c.lowest-place.result c.lowest-place.ensures.set
-
 pub loop-rest-init : goal.loop-rest-init
 loop-rest-init c = λ d. all_left (λ k. is_ready c.args.x.now (get_or c.args.stations.now k d)) c.args.places
 
 pub loop-rest-preserved-then-not-is_ready : goal.loop-rest-preserved-then-not-is_ready
 loop-rest-preserved-then-not-is_ready c =
     let back = goal.at.loop-rest-preserved-then-not-is_ready c in
-    λ d. goes (λ n. is_ready c.args.x.now (get_or c.args.stations.now n d)) c.args.places c.loop-rest.ready c.loop-rest.rest c.without_bit-rest.result
-    c.lowest-place.result (c.loop-rest.invariant d) c.without_bit-rest.ensures.cleared c.without_bit-rest.ensures.others c.without_bit-ready.result
-    c.without_bit-ready.ensures.cleared c.without_bit-ready.ensures.others (answered back.After-is_ready d (inside back.After-from-i) ∙ c.if-not-is_ready.true)
+    λ d. goes (λ n. is_ready c.args.x.now (get_or c.args.stations.now n d)) c.args.places c.loop-rest.ready c.loop-rest.rest c.without-rest.result
+    c.lowest-place.result (c.loop-rest.invariant d) c.without-rest.ensures.cleared c.without-rest.ensures.others c.without-ready.result
+    c.without-ready.ensures.cleared c.without-ready.ensures.others (answered back.After-is_ready d (inside back.After-from-i) ∙ c.if-not-is_ready.true)
 
 pub loop-rest-preserved : goal.loop-rest-preserved
 loop-rest-preserved c =
     let back = goal.at.loop-rest-preserved c in
-    λ d. stays (λ n. is_ready c.args.x.now (get_or c.args.stations.now n d)) c.args.places c.loop-rest.ready c.loop-rest.rest c.without_bit-rest.result
-    c.lowest-place.result (c.loop-rest.invariant d) c.without_bit-rest.ensures.cleared c.without_bit-rest.ensures.others
+    λ d. stays (λ n. is_ready c.args.x.now (get_or c.args.stations.now n d)) c.args.places c.loop-rest.ready c.loop-rest.rest c.without-rest.result
+    c.lowest-place.result (c.loop-rest.invariant d) c.without-rest.ensures.cleared c.without-rest.ensures.others
     (answered back.After-is_ready d (inside back.After-from-i) ∙ c.if-not-is_ready.false)
 
 pub returns : goal.returns
 returns c = λ d. none_left (λ k. is_ready c.args.x.now (get_or c.args.stations.now k d)) c.args.places c.loop-rest.ready c.loop-rest.rest
-    c.loop-rest-test.false (c.loop-rest.invariant d)
+    (is_none c.loop-rest.rest c.is_empty.result c.is_empty.ensures c.loop-rest-test.false) (c.loop-rest.invariant d)

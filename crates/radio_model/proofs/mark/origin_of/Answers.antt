@@ -26,8 +26,8 @@ loop-rest-init c = c.requires.within
 pub loop-rest-preserved : goal.loop-rest-preserved
 loop-rest-preserved c =
     λ j one. elim (cases_eq j c.lowest-next.result) [
-      | inl here ↦ absurd (omega (arith, one, c.without_bit-rest.ensures.cleared, ap (bit_at c.without_bit-rest.result) here))
-      | inr other ↦ c.loop-rest.invariant j (sym (c.without_bit-rest.ensures.others j other) ∙ one)
+      | inl here ↦ absurd (omega (arith, one, c.without-rest.ensures.cleared, ap (bit_at c.without-rest.result) here))
+      | inr other ↦ c.loop-rest.invariant j (sym (c.without-rest.ensures.others j other) ∙ one)
     ]
 
 pub returns-then-sends_packet : goal.returns-then-sends_packet

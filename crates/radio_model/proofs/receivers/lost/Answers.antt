@@ -3,7 +3,7 @@ use Rattle.std.proofs.lemmas.List.{get_or_default}
 use Rattle.std.specs.Int.{bit_at}
 use Rattle.link_trace.specs.Masks.{IsMaskUpto}
 use Rattle.link_trace.specs.Passes.{captured}
-use Rattle.link_trace.proofs.MaskBits.{one_set, one_unset}
+use Rattle.link_trace.proofs.MaskBits.{one_with, one_without}
 use Rattle.radio_model.specs.Hearing.{frame_of_sending, slot_of_sending, counter_of_sending}
 use Rattle.radio_model.specs.Receptions.{is_captured}
 use Rattle.radio_model.proofs.ReceiverMasks.{bit_tests}
@@ -27,9 +27,10 @@ loop-i-preserved c =
     ∙ ap (λ (v : ℕ). (bit_at c.args.mixed i == 1) && named v) (sym read) ∙ sym c.is_lost.ensures in
     elim c.if-is_lost.branch [
       | then-is_lost w ↦
-          subst (λ (k : ℕ). IsMaskUpto test nodes (i + 1) k) (sym w.mask-is)
-          (one_set nodes c.requires.nodes.few test i c.loop-i.mask inside (c.loop-i.invariant m is) (answer ∙ w.if-is_lost.true))
+          subst (λ (k : ℕ). IsMaskUpto test nodes (i + 1) k) (sym w.places-is)
+          (one_with nodes test i c.loop-i.places (c.loop-i.invariant m is) w.with-places.result w.with-places.ensures.set w.with-places.ensures.others
+          (answer ∙ w.if-is_lost.true))
       | else-is_lost w ↦
-          subst (λ (k : ℕ). IsMaskUpto test nodes (i + 1) k) (sym w.mask-is)
-          (one_unset nodes c.requires.nodes.few test i c.loop-i.mask inside (c.loop-i.invariant m is) (answer ∙ w.if-is_lost.false))
+          subst (λ (k : ℕ). IsMaskUpto test nodes (i + 1) k) (sym w.places-is)
+          (one_without nodes test i c.loop-i.places (c.loop-i.invariant m is) (answer ∙ w.if-is_lost.false))
     ]

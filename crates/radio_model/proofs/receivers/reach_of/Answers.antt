@@ -1,6 +1,6 @@
 use Rattle.std.proofs.Common.{ℕ, List, sym, subst}
 use Rattle.link_trace.specs.Masks.{IsMask}
-use Rattle.link_trace.proofs.MaskBits.{found_alone, found_none}
+use Rattle.link_trace.proofs.MaskBits.{found_only, found_none}
 use Rattle.radio_model.specs.Receptions.{arrives}
 use Rattle.radio_model.proofs.receivers.reach_of.Goals as goal
 
@@ -9,7 +9,8 @@ returns-in-Ok c =
     let nodes = c.args.nodes.now in
     let y = c.args.y.now in
     record {
-      from = found_alone nodes c.requires.nodes.few c.requires.nodes.ascending y.node c.in-Ok.place c.in-Ok.ensures.bound c.in-Ok.ensures.position;
+      from = found_only nodes c.requires.nodes.ascending y.node c.in-Ok.place c.with.result c.in-Ok.ensures.bound c.with.ensures.set
+          c.with.ensures.others c.in-Ok.ensures.position;
       to = subst (λ (ns : List ℕ). IsMask (λ v. arrives c.args.profile.now c.args.trace.now.lines v y) ns c.reached_from.result)
           (sym c.requires.sealed) c.reached_from.ensures;
     }

@@ -1,7 +1,7 @@
 use Rattle.std.proofs.Common.{◌≡◌, ◌+◌, ℕ, get_or, ap, sym, ◌∙◌, subst}
 use Rattle.std.proofs.lemmas.List.{get_or_default}
 use Rattle.link_trace.specs.Masks.{IsMaskUpto}
-use Rattle.link_trace.proofs.MaskBits.{one_set, one_unset}
+use Rattle.link_trace.proofs.MaskBits.{one_with, one_without}
 use Rattle.radio_model.specs.Receptions.{arrives}
 use Rattle.radio_model.proofs.receivers.reached_by_other.Goals as goal
 use Rattle.radio_model.proofs.receivers.reached_by_other.Goals.{then-arrives, else-arrives}
@@ -16,9 +16,10 @@ loop-i-preserved c =
     let answer : test (get_or nodes i 0) ≡ c.arrives.result = ap test (sym read) ∙ sym c.arrives.ensures in
     elim c.if-arrives.branch [
       | then-arrives w ↦
-          subst (λ (m : ℕ). IsMaskUpto test nodes (i + 1) m) (sym w.mask-is)
-          (one_set nodes c.requires.nodes.few test i c.loop-i.mask inside c.loop-i.invariant (answer ∙ w.if-arrives.true))
+          subst (λ (m : ℕ). IsMaskUpto test nodes (i + 1) m) (sym w.places-is)
+          (one_with nodes test i c.loop-i.places c.loop-i.invariant w.with-places.result w.with-places.ensures.set w.with-places.ensures.others
+          (answer ∙ w.if-arrives.true))
       | else-arrives w ↦
-          subst (λ (m : ℕ). IsMaskUpto test nodes (i + 1) m) (sym w.mask-is)
-          (one_unset nodes c.requires.nodes.few test i c.loop-i.mask inside c.loop-i.invariant (answer ∙ w.if-arrives.false))
+          subst (λ (m : ℕ). IsMaskUpto test nodes (i + 1) m) (sym w.places-is)
+          (one_without nodes test i c.loop-i.places c.loop-i.invariant (answer ∙ w.if-arrives.false))
     ]

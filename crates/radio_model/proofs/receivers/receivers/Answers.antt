@@ -2,7 +2,7 @@ use Rattle.std.proofs.Common.{ℕ, not, ◌&&◌, ◌||◌, refl}
 use Rattle.std.specs.List.{list_any}
 use Rattle.link_trace.specs.Masks.{IsMask}
 use Rattle.link_trace.specs.Passes.{captured}
-use Rattle.link_trace.proofs.MaskBits.{same_tests}
+use Rattle.link_trace.proofs.MaskBits.{left_out, same_tests}
 use Rattle.radio_model.specs.Hearing.{frame_of_sending, slot_of_sending, counter_of_sending}
 use Rattle.radio_model.specs.Receptions.{arrives, transmits, spoils, differs, is_captured, comes_through}
 use Rattle.radio_model.proofs.Received.{gives, asks}
@@ -31,7 +31,6 @@ pub returns : goal.returns
 returns c =
     λ a v numbers trace are sent there tuned.
     let nodes = c.args.nodes.now in
-    let few = c.requires.nodes.few in
     let p = c.args.profile.now in
     let lines = c.args.trace.now.lines in
     let near = c.args.near.now in
@@ -43,10 +42,10 @@ returns c =
     let chosen = λ (u : ℕ). is_captured p lines u x near (captured lines (frame_of_sending p x) (slot_of_sending x) (counter_of_sending x) u) in
     let through = λ (u : ℕ). comes_through p lines u x near in
     let does = c.in-Some.ensures.some lines nodes c.requires.reaches in
-    let quiet = c.except-quiet.ensures nodes arriving busy few c.requires.reach.to does.busy in
-    let clean = c.except-clean.ensures nodes (λ u. arriving u && not (busy u)) late few quiet does.late in
-    let kept = c.except.ensures nodes (λ u. arriving u && not (busy u) && not (late u)) (λ u. mixed u && not (chosen u)) few clean
-    (c.lost-lost.ensures mixed does.mixed) in
+    let quiet = left_out nodes arriving busy c.args.reach.to _ c.except-quiet.result c.except-quiet.ensures c.requires.reach.to does.busy in
+    let clean = left_out nodes (λ u. arriving u && not (busy u)) late c.except-quiet.result _ c.except-clean.result c.except-clean.ensures quiet does.late in
+    let kept = left_out nodes (λ u. arriving u && not (busy u) && not (late u)) (λ u. mixed u && not (chosen u)) c.except-clean.result c.lost-lost.result
+    c.except.result c.except.ensures clean (c.lost-lost.ensures mixed does.mixed) in
     let mask = c.except.result in
     let is : IsMask through nodes mask =
     same_tests nodes (λ u. (arriving u && not (busy u) && not (late u)) && not (mixed u && not (chosen u))) through mask

@@ -1,21 +1,16 @@
-use Rattle.std.proofs.Common.{◌≡◌, ◌≤◌, ◌<◌, ◌++◌, ℕ, false, length, map, List, IsPermutation, ap, subst, sym, ◌∙◌, arith, refl, rules}
+use Rattle.std.proofs.Common.{◌≡◌, ◌≤◌, ◌++◌, ℕ, false, length, List, IsPermutation, ap, subst, sym, arith, refl, rules}
 use Rattle.lwb_base.specs.declared.limits.TheConstants.{MOST_SCRIPT_LINES}
-use Rattle.link_trace.specs.Sealed.{Traced}
 use Rattle.scenario_text.specs.AddedLines.{IsMerged}
-use Rattle.scenario_text.specs.Canonical.{IsSaid}
 use Rattle.scenario_text.specs.PartsInOrder.{IsInOrder, script_lines}
 use Rattle.scenario_text.specs.ScenarioFacts.{turned}
 use Rattle.scenario_text.specs.ScenarioParts.{ScenarioParts}
-use Rattle.scenario_text.specs.declared.lines.NodeLine.{NodeLine}
 use Rattle.scenario_text.specs.declared.script.ScriptLine.{ScriptLine}
-use Rattle.scenario_text.proofs.EachPair.{pairs_climb}
-use Rattle.scenario_text.proofs.LinesAdded.{one_with_script, same_parts, still_in_order}
-use Rattle.scenario_text.proofs.NodeIds.{nodes_seal}
+use Rattle.scenario_text.proofs.LinesAdded.{one_with_script, still_in_order}
 use Rattle.scenario_text.proofs.OrderedParts.{said_in_order, in_order_said}
 use Rattle.scenario_text.proofs.added_lines.with_script.Goals as goal
 
-pub returns-then-len-script_room-clause-none : goal.returns-then-len-script_room-clause-none
-returns-then-len-script_room-clause-none c =
+pub returns-then-other_lines-len-gt-MOST_SCRIPT_LINES-clause-none : goal.returns-then-other_lines-len-gt-MOST_SCRIPT_LINES-clause-none
+returns-then-other_lines-len-gt-MOST_SCRIPT_LINES-clause-none c =
     λ t is room.
     let s = c.args.s.now in
     let sc = c.in_ok-script.script.items in
@@ -24,8 +19,8 @@ returns-then-len-script_room-clause-none c =
     let same : t ≡ record s { script = sc } = one_with_script s c.args.added.now sc t merged is in
     let lines : script_lines (record s { script = sc }) ≤ MOST_SCRIPT_LINES =
     subst (λ (u : ScenarioParts). script_lines u ≤ MOST_SCRIPT_LINES) same room.lines in
-    let many = c.if-len-script_room.true in
-    let others = c.script_room.ensures in
+    let many = c.if-other_lines-len-gt-MOST_SCRIPT_LINES.true in
+    let others = c.other_lines.ensures.count in
     let long : c.len.result ≡ length sc = search rules in
     omega (arith, lines, many, others, long)
 
@@ -51,8 +46,8 @@ with_own_script-requires c =
     subst (λ (old : List ScriptLine). IsMerged old c.args.added.now sc) c.script.ensures.value c.in_ok-script.ensures.merged in
     let shuffled : IsPermutation (s.script ++ c.args.added.now) sc =
     subst (λ (old : List ScriptLine). IsPermutation (old ++ c.args.added.now) sc) c.script.ensures.value c.in_ok-script.ensures.permutation in
-    let few = c.if-len-script_room.false in
-    let room = c.script_room.ensures in
+    let few = c.if-other_lines-len-gt-MOST_SCRIPT_LINES.false in
+    let room = c.other_lines.ensures.count in
     let lines : script_lines (record s { script = sc }) ≤ MOST_SCRIPT_LINES =
     omega (arith, few, room, c.len.ensures, c.deref.ensures.len, ap length c.deref.ensures.value) in
     let boots : (v : ℕ) → (turned v (false, 0) sc).1 ≤ 200 =

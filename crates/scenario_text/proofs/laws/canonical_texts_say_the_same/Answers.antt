@@ -1,6 +1,7 @@
 use Rattle.std.proofs.Common.{refl}
 use Rattle.scenario_text.specs.Canonical.{canonical}
-use Rattle.scenario_text.proofs.SaidParts.{says_again, says_again_to_run}
+use Rattle.scenario_text.proofs.Horizons.{says_again_to_run}
+use Rattle.scenario_text.proofs.SaidParts.{says_again}
 use Rattle.scenario_text.proofs.laws.canonical_texts_say_the_same.Goals as goal
 
 pub returns-clause-long : goal.returns-clause-long

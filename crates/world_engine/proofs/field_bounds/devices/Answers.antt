@@ -1,5 +1,5 @@
 use Rattle.std.proofs.Common.{◌≡◌, ◌++◌, ◌∷◌, [], ◌∙◌, ap, rules, arith, length}
-use Rattle.scenario_text.proofs.SoundScenarios.{sound}
+use Rattle.scenario_text.proofs.SoundOver.{over_sound}
 use Rattle.scenario_text.specs.Setups.{setup_of}
 use Rattle.lwb_base.proofs.Elements.{map_pushed}
 use Rattle.world_engine.specs.FieldSteps.{first_device, nothing_counted}
@@ -7,17 +7,17 @@ use Rattle.world_engine.proofs.FirstField.{new_device}
 use Rattle.world_engine.proofs.field_bounds.devices.Goals as goal
 
 pub new-requires-clause-hosts : goal.new-requires-clause-hosts
-new-requires-clause-hosts c =
-    let is = sound c.args.s.now c.profile-profile.ensures.said in
+new-requires-clause-hosts g c =
+    let is = over_sound c.args.s.now c.profile-profile.ensures.said in
     omega (arith, is.some_hosts, is.few_hosts, ap length c.hosts.ensures.value)
 
 pub new-requires-clause-sends : goal.new-requires-clause-sends
-new-requires-clause-sends c =
-    let is = sound c.args.s.now c.profile-profile.ensures.said in
+new-requires-clause-sends g c =
+    let is = over_sound c.args.s.now c.profile-profile.ensures.said in
     omega (arith, is.some_sends, is.few_sends, c.sends.ensures)
 
 pub loop-line-preserved : goal.loop-line-preserved
-loop-line-preserved c =
+loop-line-preserved g c =
     let d = c.in_ok-device.device in
     let n = c.line-item.result in
     let pushed : c.push.new.self.items ≡ c.loop-line.devices.items ++ d ∷ [] = search rules in

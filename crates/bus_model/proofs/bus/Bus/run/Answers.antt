@@ -1,6 +1,6 @@
 use Rattle.std.proofs.Common.{IfOk, subst}
 use Rattle.link_trace.specs.Passes.{Lines}
-use Rattle.bus_terms.specs.OverLines.{over}
+use Rattle.scenario_text.specs.OverLines.{over}
 use Rattle.bus_model.specs.BusRuns.{IsBusRun}
 use Rattle.bus_model.proofs.bus.Bus.run.Goals as goal
 

@@ -2,7 +2,7 @@ use Rattle.std.proofs.Common.{◌≡◌, ℕ, filter_map, length, subst, sym, �
 use Rattle.std.proofs.lemmas.Result.{IfOk-weaker}
 use Rattle.std.specs.List.{enumerate_from}
 use Rattle.scenario_text.specs.ScenarioParts.{ScenarioParts}
-use Rattle.bus_terms.specs.OverLines.{over}
+use Rattle.scenario_text.specs.OverLines.{over}
 use Rattle.bus_terms.specs.Packets.{bus_puts}
 use Rattle.plain_bus.proofs.SlotsMet.{ids_ascend, ids_each}
 use Rattle.plain_bus.proofs.SoundOver.{sound_over}

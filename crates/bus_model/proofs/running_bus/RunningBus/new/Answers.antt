@@ -1,5 +1,5 @@
 use Rattle.std.proofs.Common.{◌*◌, subst, sym, ◌∙◌, ap}
-use Rattle.bus_terms.specs.OverLines.{over}
+use Rattle.scenario_text.specs.OverLines.{over}
 use Rattle.plain_bus.specs.Networks.{Network, IsReady}
 use Rattle.bus_model.proofs.FramesInTurn.{nodes_off, power_off, ready_off, cut_off}
 use Rattle.bus_model.proofs.running_bus.RunningBus.new.Goals as goal

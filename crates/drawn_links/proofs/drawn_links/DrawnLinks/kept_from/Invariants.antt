@@ -8,8 +8,8 @@ abbrev pub invariant-loop-rest : goal.invariant-loop-rest
 invariant-loop-rest l = record {
   so_far : (j k : ℕ) → l.key ≡ (l.frame * 64 + j) * 16 + k
       → IsWithoutSoFar (λ i. is_drawn l.self.ratios l.self.seed l.frame j k (slice_index l.self.trace.nodes i) (slice_index l.self.trace.nodes l.at))
-      l.senders l.rest l.kept;
-  left : (i : ℕ) → bit_at l.rest i ≡ 1 → bit_at l.senders i ≡ 1;
+      l.fn.senders l.rest l.kept;
+  left : (i : ℕ) → bit_at l.rest i ≡ 1 → bit_at l.fn.senders i ≡ 1;
   still : (i : ℕ) → bit_at l.rest i ≡ 1 → bit_at l.kept i ≡ 1;
 }
 

@@ -1,8 +1,9 @@
-use Rattle.std.proofs.Common.{◌≡◌, true, get_or, sym, ◌∙◌, ap, subst}
+use Rattle.std.proofs.Common.{◌≡◌, ℕ, Bool, true, get_or, sym, ◌∙◌, ap, subst}
 use Rattle.link_trace.specs.Masks.{IsMask}
 use Rattle.link_trace.specs.Passes.{passes}
 use Rattle.link_trace.specs.Sealed.{Traced}
-use Rattle.drawn_links.specs.Drawings.{Drawing, has_coins, lines_of}
+use Rattle.drawn_links.specs.Drawings.{Drawing, IsWithout, has_coins, lines_of}
+use Rattle.drawn_links.specs.DrawnLosses.{is_drawn}
 use Rattle.drawn_links.proofs.KeptBits.{all_from_it, kept_from_it}
 use Rattle.drawn_links.proofs.drawn_links.DrawnLinksLinks.to_mask.Goals as goal
 
@@ -24,5 +25,7 @@ returns c =
     c.to_mask-receivers.result) (ap (λ (x : Drawing). x.trace) c.self.view_is) c.to_mask-receivers.ensures in
     let coins : has_coins d.frames c.args.frame c.args.slot c.args.step ≡ true =
     ap (λ (x : Drawing). has_coins x.frames c.args.frame c.args.slot c.args.step) (sym c.self.view_is) ∙ sym c.has_coins.ensures ∙ c.if-not-has_coins.false in
-    kept_from_it d.trace.lines d.ratios d.seed d.frames c.args.frame c.args.slot c.args.step d.trace.nodes from c.to_mask-receivers.result c.kept_to.result
-    coins receivers (c.kept_to.ensures c.args.slot c.args.step c.step_key.ensures)
+    let lost : ℕ → Bool = λ i. is_drawn d.ratios d.seed c.args.frame c.args.slot c.args.step from (get_or d.trace.nodes i 0) in
+    let without = subst (λ (n : ℕ). IsWithout lost n c.kept_to.result) c.of_word.ensures (c.kept_to.ensures c.args.slot c.args.step c.step_key.ensures) in
+    rw c.word.ensures (kept_from_it d.trace.lines d.ratios d.seed d.frames c.args.frame c.args.slot c.args.step d.trace.nodes from c.to_mask-receivers.result
+    c.kept_to.result coins receivers without)

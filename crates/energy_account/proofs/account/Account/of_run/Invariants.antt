@@ -4,4 +4,4 @@ use Rattle.energy_account.specs.Accounts.{line_for}
 use Rattle.energy_account.proofs.account.Account.of_run.Given as goal
 
 abbrev pub invariant-loop-place : goal.invariant-loop-place
-invariant-loop-place l = l.lines.items ≡ map (line_for l.fn.s (scenario_clock l.fn.s) l.fn.a) (take l.place l.nodes)
+invariant-loop-place g l = l.lines.items ≡ map (line_for l.fn.s (scenario_clock l.fn.s) l.fn.a) (take l.place l.nodes)

@@ -1,6 +1,5 @@
-use Rattle.std.proofs.Common.{◌≡◌, ◌≤◌, ◌==◌, ℕ, List, length, sym, subst, ◌∙◌, ap}
+use Rattle.std.proofs.Common.{◌≡◌, ◌==◌, ℕ, List, sym, subst, ◌∙◌, ap}
 use Rattle.std.specs.List.{filter, list_any}
-use Rattle.lwb_base.specs.declared.limits.TheConstants.{MOST_NODES}
 use Rattle.link_trace.specs.declared.lines.CutLine.{CutLine}
 use Rattle.link_trace.specs.declared.lines.LoseLine.{LoseLine}
 use Rattle.link_trace.specs.Masks.{IsMask}
@@ -32,11 +31,12 @@ returns c =
     let found_is : found ≡ filter (cuts_by f j k) s.lines.cuts =
     c.cuts_so_far-cuts.ensures ∙ ap (λ (ls : List CutLine). filter (cuts_by f j k) ls) (c.deref-5.ensures.value
     ∙ ap (λ (t : Traced). t.lines.cuts) c.self.view_is) in
-    left_passing s f j k side c.args.links c.requires (subst (λ (t : Traced). length t.nodes ≤ MOST_NODES) c.self.view_is c.self.invariant.few)
-    lost c.lost_mask-lost.type_inv
+    left_passing s f j k side c.args.links c.requires lost
     (subst (λ (ls : List LoseLine). IsMask (λ v. is_lost f j k side ls v) s.nodes lost) (c.deref-3.ensures.value
     ∙ ap (λ (t : Traced). t.lines.losses) c.self.view_is)
     (subst (λ (ns : List ℕ). IsMask (λ v. is_lost f j k side c.deref-3.result.now v) ns lost) nodes_are c.lost_mask-lost.ensures))
-    found found_is (ap (λ (u : ℕ). list_any (λ (l : CutLine). l.node == u) found) (sym c.own.ensures) ∙ sym c.names.ensures ∙ c.if-names.false)
-    c.cut_mask-cut.result c.cut_mask-cut.type_inv
+    c.except-2.result c.except-2.ensures found found_is
+    (ap (λ (u : ℕ). list_any (λ (l : CutLine). l.node == u) found) (sym c.own.ensures) ∙ sym c.names.ensures ∙ c.if-names.false)
+    c.cut_mask-cut.result
     (subst (λ (ns : List ℕ). IsMask (λ v. list_any (λ (l : CutLine). l.node == v) found) ns c.cut_mask-cut.result) nodes_are c.cut_mask-cut.ensures)
+    c.except-3.result c.except-3.ensures

@@ -3,7 +3,7 @@ use Rattle.std.proofs.lemmas.List.{take_all, length-map}
 use Rattle.std.proofs.lemmas.List.Elements.{All-push}
 use Rattle.link_trace.specs.Masks.{IsMaskUpto}
 use Rattle.bus_terms.specs.Flooding.{next}
-use Rattle.plain_bus.specs.FloodMasks.{station_at, with_sender, traced}
+use Rattle.plain_bus.specs.FloodMasks.{station_at, AddsSender, traced}
 use Rattle.plain_bus.specs.declared.station.Station.{Station}
 use Rattle.plain_bus.proofs.HeardByMasks.{station_read}
 use Rattle.plain_bus.proofs.SteppedByMasks.{stepped, one_more_station, one_more_sender, no_station, times_stepped, nobody}
@@ -40,13 +40,12 @@ loop-place-preserved g c =
           (c.after.ensures ∙ stepped s k m (get_or nodes place 0) x c.hears-heard.result (station_read s m t f k flood known place below xs x at.each read)
           (c.hears-heard.ensures s m flood known at)) c.push.ensures.each;
       senders = λ s m flood known at.
-          subst (λ (n : ℕ). IsMaskUpto (λ v. is_some ((next s k m).sends v)) nodes (place + 1) n)
-          (sym (c.push.ensures.senders ∙ ap (λ (n : ℕ). with_sender c.loop-place.next.senders n y) c.loop-place.invariant.length))
-          (one_more_sender (λ v. is_some ((next s k m).sends v)) nodes place y c.loop-place.next.senders c.requires.few below
+          one_more_sender (λ v. is_some ((next s k m).sends v)) nodes place y c.loop-place.next.senders c.push.new.self.senders
+          (subst (λ (n : ℕ). AddsSender c.loop-place.next.senders n y c.push.new.self.senders) c.loop-place.invariant.length c.push.ensures.senders)
           (c.loop-place.invariant.senders s m flood known at)
           (ap (λ (z : Station). is_some z.sends)
           (c.after.ensures ∙ stepped s k m (get_or nodes place 0) x c.hears-heard.result
-          (station_read s m t f k flood known place below xs x at.each read) (c.hears-heard.ensures s m flood known at))));
+          (station_read s m t f k flood known place below xs x at.each read) (c.hears-heard.ensures s m flood known at)));
       length = omega (arith, ap length c.push.ensures.each, length-append c.loop-place.next.each.items (y ∷ []), c.loop-place.invariant.length);
       times =
           subst (λ (l : List Station). All (λ (z : Station). z.times ≤ k + 1) l) (sym c.push.ensures.each)

@@ -1,16 +1,16 @@
-use Rattle.std.proofs.Common.{◌≡◌, ◌<◌, ◌≤◌, ◌+◌, ℕ, List, Bool, All, length, map, take, drop, get_or, set, is_some, if◌then◌else◌, subst}
-use Rattle.std.proofs.Common.{refl, sym, ◌∙◌, ap, arith, bit_or, ◌*◌, ◌^◌, ◌%◌}
+use Rattle.std.proofs.Common.{◌≡◌, ◌<◌, ◌≤◌, ◌+◌, ℕ, List, All, length, map, take, drop, get_or, set, is_some, subst}
+use Rattle.std.proofs.Common.{refl, sym, ◌∙◌, ap, arith}
 use Rattle.std.specs.List.{refill}
 use Rattle.std.proofs.lemmas.List.{take_all, take_at, length-map, get_or_default, take_more_set}
 use Rattle.std.proofs.lemmas.List.Elements.{All-push}
 use Rattle.link_trace.specs.Masks.{IsMaskUpto}
 use Rattle.bus_terms.specs.Flooding.{Setting, Moment, next}
-use Rattle.plain_bus.specs.FloodMasks.{AreAt, IsMaskedFlood, SendsForInitiators, IsLone, heard_alone, station_after, station_at, with_sender, traced}
+use Rattle.plain_bus.specs.FloodMasks.{AreAt, IsMaskedFlood, SendsForInitiators, IsLone, heard_alone, station_after, station_at, AddsSender, traced}
 use Rattle.plain_bus.specs.declared.station.Station.{Station}
 use Rattle.plain_bus.proofs.HeardAlone.{heard_alone_is}
 use Rattle.plain_bus.proofs.HeardByMasks.{station_read}
 use Rattle.plain_bus.proofs.ListsInPlace.{same_place, rest_unchanged}
-use Rattle.plain_bus.proofs.SteppedByMasks.{stepped, one_more_station, one_more_sender, no_station, times_stepped}
+use Rattle.plain_bus.proofs.SteppedByMasks.{added, not_added, stepped, one_more_station, one_more_sender, no_station, times_stepped}
 use Rattle.plain_bus.proofs.station.Stations.pass_all.Goals as goal
 use Rattle.plain_bus.proofs.station.Stations.pass_all.Goals.{then-is_some, else-is_some}
 
@@ -38,8 +38,8 @@ pass-requires-clause-times g c =
     ∙ get_or_default xs i c.station-item.result d inside in
     subst (λ (z : Station). z.times ≤ c.args.step) (sym old) (c.requires.times i d inside)
 
-pub overflow_shl-senders : goal.overflow_shl-senders
-overflow_shl-senders g c =
+pub with-senders-requires : goal.with-senders-requires
+with-senders-requires g c =
     let size = ap length c.deref_mut-station-items.ensures.value in
     omega (arith, c.loop-station-test.true, c.loop-station.invariant.place, size, c.requires.sealed, c.requires.few)
 
@@ -78,13 +78,13 @@ loop-station-preserved g c =
     (let read : d ≡ station_at m v = station_read s m t f k flood known i below xs d at.each old in
     passed
     ∙ stepped s k m v d (heard_alone f reached i o d) read
-    (heard_alone_is s m t f k flood known c.args.self.now at o lone reached c.reached_by-reached.ensures i below d read)) in
-    let sent : c.if-is_some.senders ≡ with_sender mask i y = elim c.if-is_some.branch [
-      | then-is_some w ↦
-          w.senders-is ∙ ap (λ (p : ℕ). bit_or mask (1 * 2 ^ p % 2 ^ 64)) place
-          ∙ ap (λ (b : Bool). if b then bit_or mask (1 * 2 ^ i % 2 ^ 64) else mask) (sym (sym c.is_some.ensures ∙ w.if-is_some.true))
-      | else-is_some w ↦
-          w.senders-is ∙ ap (λ (b : Bool). if b then bit_or mask (1 * 2 ^ i % 2 ^ 64) else mask) (sym (sym c.is_some.ensures ∙ w.if-is_some.false))
+    (heard_alone_is s m t f k flood known c.args.self.now at o lone c.except-quiet.result reached c.except-quiet.ensures c.reached_by-reached.ensures
+    i below d read)) in
+    let sent : AddsSender mask i y c.if-is_some.senders = elim c.if-is_some.branch [
+      | then-is_some w ↦ subst (λ (n : ℕ). AddsSender mask i y n) (sym w.senders-is)
+          (subst (λ (p : ℕ). AddsSender mask p y w.with-senders.result) place (added mask c.loop-station.place y w.with-senders.result
+          (sym c.is_some.ensures ∙ w.if-is_some.true) w.with-senders.ensures.set w.with-senders.ensures.others))
+      | else-is_some w ↦ subst (λ (n : ℕ). AddsSender mask i y n) (sym w.senders-is) (not_added mask i y (sym c.is_some.ensures ∙ w.if-is_some.false))
     ] in
     record {
       place = ap (λ (n : ℕ). n + 1) place;
@@ -92,9 +92,8 @@ loop-station-preserved g c =
           one_more_station (station_at (next s k m)) nodes i y (take i items) (take (i + 1) (set items i y)) below
           (c.loop-station.invariant.done s m flood lone known at) (station s m flood lone known at) (take_more_set items i y there);
       senders = λ s m flood lone known at.
-          subst (λ (n : ℕ). IsMaskUpto (λ u. is_some ((next s k m).sends u)) nodes (i + 1) n) (sym sent)
-          (one_more_sender (λ u. is_some ((next s k m).sends u)) nodes i y mask c.requires.few below
-          (c.loop-station.invariant.senders s m flood lone known at) (ap (λ (z : Station). is_some z.sends) (station s m flood lone known at)));
+          one_more_sender (λ u. is_some ((next s k m).sends u)) nodes i y mask c.if-is_some.senders sent
+          (c.loop-station.invariant.senders s m flood lone known at) (ap (λ (z : Station). is_some z.sends) (station s m flood lone known at));
       todo = rest_unchanged xs items i y c.loop-station.invariant.todo;
       times =
           subst (λ (l : List Station). All (λ (z : Station). z.times ≤ k + 1) l) (sym (take_more_set items i y there))

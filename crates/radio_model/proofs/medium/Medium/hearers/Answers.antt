@@ -1,4 +1,4 @@
-use Rattle.std.proofs.Common.{List, ◌≡◌, ◌≤◌, ◌^◌, ◌∙◌, ℕ, Some, None, Option, All, ap, subst, sym, arith, IfSome}
+use Rattle.std.proofs.Common.{List, ◌≡◌, ◌+◌, ◌≤◌, ◌^◌, ◌∙◌, ℕ, Some, None, Option, All, ap, subst, sym, arith, IfSome}
 use Rattle.std.proofs.lemmas.List.{length-map}
 use Rattle.radio_model.specs.Ages.{IsAged}
 use Rattle.radio_model.specs.Stations.{MediumState, nodes_of, station_of, sending_of_station, Ends}
@@ -8,7 +8,7 @@ use Rattle.radio_model.specs.declared.station.Station.{Station}
 use Rattle.radio_model.proofs.Origins.{alike_to}
 use Rattle.radio_model.specs.Stations.{id_of_station}
 use Rattle.radio_model.proofs.PlacedStations.{StandsFor, all_placed, found_station, seen}
-use Rattle.radio_model.proofs.RecentPlaces.{among_recent}
+use Rattle.radio_model.proofs.RecentPlaces.{among_recent, close_recent}
 use Rattle.radio_model.proofs.SendingAtPlace.{runs_there, times_there, hearers_there}
 use Rattle.radio_model.proofs.medium.Medium.hearers.Given.{Over}
 use Rattle.radio_model.proofs.medium.Medium.hearers.Goals as goal
@@ -56,7 +56,7 @@ listeners-requires-clause-ending g c =
       start = small.0;
       end = small.1;
       key = c.of.ensures;
-      opens = c.frame_start.ensures;
+      opens = c.frame_start-opens.ensures;
       delta = c.self.invariant.4;
       few = omega (arith, c.self.invariant.0.nodes.few, length-map m.stations id_of_station);
       seal = sealed g back;
@@ -68,6 +68,9 @@ listeners-requires-clause-ending g c =
           c.self.invariant.3 (record { below = at.below; station = sym c.index-from.ensures; mark = sym c.index.ensures }) c.in-Some.is;
       among = among_recent m.numbers m.now m.stations c.self.inside.marks.items c.self.inside.recent c.self.invariant.2 c.self.invariant.6
           c.place_of-place.result c.index-from.result.now c.in-Some.x at.below (ap (λ (s : Station). s.sending) (sym at.at) ∙ c.in-Some.is);
+      close_by = λ so. close_recent m.now m.stations c.self.inside.marks.items c.self.inside.recent c.self.invariant.6 c.place_of-place.result
+          c.index-from.result.now c.in-Some.x at.below (ap (λ (s : Station). s.sending) (sym at.at) ∙ c.in-Some.is) c.index.result.now.origin
+          c.frame_start-opens.result (c.in-Some.x.start + c.self.inside.delta) (sym c.is_close.ensures ∙ so);
     })
 
 pub listeners-requires-clause-from : goal.listeners-requires-clause-from

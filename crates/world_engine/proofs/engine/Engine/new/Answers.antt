@@ -7,14 +7,14 @@ use Rattle.world_engine.proofs.engine.Engine.new.Goals as goal
 pub invariant_of-result : goal.invariant_of-result
 invariant_of-result g c = record {
   count = c.requires;
-  first = λ not. (c.in_ok-new.ensures, c.new-2.ensures.items);
+  first = λ not. (c.in_ok-field.ensures, c.new-2.ensures.items);
 }
 
 pub returns : goal.returns
 returns g c =
-    let first = c.in_ok-new.ensures in
+    let first = c.in_ok-field.ensures in
     let air = first.air in
     let drops = first.drops in
     let made = c.new-2.ensures.items in
-    let cores : map core_in c.in_ok-new.field-0.devices ≡ map (new_core c.args.s.now) c.args.s.now.nodes = first_cores c.args.s.now c.in_ok-new.field-0 first in
+    let cores : map core_in c.in_ok-field.field.devices ≡ map (new_core c.args.s) c.args.s.nodes = first_cores c.args.s c.in_ok-field.field first in
     search rules

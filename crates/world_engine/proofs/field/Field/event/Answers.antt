@@ -1,4 +1,5 @@
 use Rattle.std.proofs.lemmas.Result.{on_ok_weaker}
+use Rattle.link_trace.specs.Sealed.{traced}
 use Rattle.world_engine.proofs.DueSteps.{IsDue, early, shown, inside, clock_there, trace_sealed, sending, ends, end_done, alarms_over, alarm_done}
 use Rattle.world_engine.proofs.DueSteps.{start_stands, start_done}
 use Rattle.world_engine.proofs.field.Field.event.Given.{Over}
@@ -23,7 +24,8 @@ end-requires-clause-early g c = early (due g (goal.at.end-requires-clause-early 
 
 pub end-requires-clause-seal : goal.end-requires-clause-seal
 end-requires-clause-seal g c =
-    trace_sealed (due g (goal.at.end-requires-clause-seal g c).Start) c.requires.running.1 c.trace.result.now c.trace.ensures.sealed
+    trace_sealed (due g (goal.at.end-requires-clause-seal g c).Start) c.requires.running.1
+    (traced (g.M.Links.lines c.links.result.now) (g.M.Links.nodes c.links.result.now)) c.links.ensures.sealed
 
 pub end-requires-clause-ends : goal.end-requires-clause-ends
 end-requires-clause-ends g c = ends (due g (goal.at.end-requires-clause-ends g c).Start) c.requires.running.1 c.in-SendingEnd.is
@@ -33,7 +35,7 @@ returns-in-SendingEnd g c = λ told run.
     let at = due g (goal.at.returns-in-SendingEnd g c).Start in
     let is = c.in-SendingEnd.is in
     let x = sending at run is in
-    on_ok_weaker c.end.result (λ done. end_done at run is c.trace.ensures.value done) (c.end.ensures x.0 x.2)
+    on_ok_weaker c.end.result (λ done. end_done at run is c.links.ensures.value done) (c.end.ensures x.0 x.2)
 
 -- its alarms
 pub alarm-requires-clause-shown : goal.alarm-requires-clause-shown

@@ -9,7 +9,7 @@ use Rattle.world_engine.proofs.field.Field.frames.Goals as goal
 pub loop-frame-init : goal.loop-frame-init
 loop-frame-init g c =
     first_frame c.args.s.now (clocks_by g.C.DriftClock.readings c.args.s.now.nodes c.args.clocks.now) c.args.self.now (g.Q.Orders.map c.args.orders.now)
-    (length c.nodes.result.now) c.in_ok-scanned.scanned.items c.new-idle.result.items (ap length c.nodes.ensures.value) c.in_ok-scanned.ensures
+    (length c.nodes.result.now) c.in_ok-scanned.scanned.items c.new-idle.result.items (ap length c.nodes.ensures) c.in_ok-scanned.ensures
     c.new-idle.ensures.items c.requires.running
 
 pub lines-requires-clause-first : goal.lines-requires-clause-first

@@ -1,6 +1,0 @@
-use Rattle.plain_bus.proofs.SoundOver.{over_scenario}
-use Rattle.plain_bus.proofs.scenario_over.ScenarioOver.frames.Goals as goal
-
-pub returns-clause-said : goal.returns-clause-said
-returns-clause-said g c =
-    over_scenario c.self.inside.scenario.now c.args.self.now (g.M.Links.lines c.self.inside.links.now) c.self.view_is c.frames.ensures.said
