@@ -9,6 +9,10 @@ use Rattle.command_line.specs.Streams.{PartWritten, IsRead, IsInput}
 pub part_due : (a b : Option (List ℕ)) (Due : List ℕ → Type 0) (text : List ℕ) → Due text → PartWritten a b (λ t. t ≡ text) → PartWritten a b Due
 part_due a b Due text due (t, gone, is, less, out) = (t, gone, subst Due (sym is) due, less, out)
 
+-- and of what else is due then
+pub part_as : (a b : Option (List ℕ)) (Due Other : List ℕ → Type 0) → ((text : List ℕ) → Due text → Other text) → PartWritten a b Due → PartWritten a b Other
+part_as a b Due Other to (text, gone, due, less, out) = (text, gone, to text due, less, out)
+
 -- what was read to the end is what was left
 pub all_read : (b c : List ℕ) (new : Option (List ℕ)) → Consumes (Some b) new c → IsAtEnd new → b ≡ c
 all_read b c None eaten end = absurd eaten

@@ -1,3 +1,5 @@
 pub mod Streams
+pub mod TextsDue
+pub mod Answers
 pub mod ProcessWords
 pub mod ProcessRuns

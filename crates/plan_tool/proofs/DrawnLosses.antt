@@ -3,13 +3,12 @@ use Rattle.std.proofs.Common.{◌≡◌, ℕ, ◌+◌, List, Option, Some, None,
 use Rattle.std.specs.Str.Lines.{lines}
 use Rattle.text_readers.specs.Faults.{RefusesBy}
 use Rattle.text_readers.specs.declared.fault.FaultKind.{FaultKind}
-use Rattle.link_trace.specs.Passes.{Lines}
 use Rattle.link_trace.specs.Sealed.{Traced}
 use Rattle.link_trace.specs.declared.lines.LoseLine.{LoseLine}
 use Rattle.scenario_text.specs.ScenarioGrammar.{IsScenario}
 use Rattle.scenario_text.specs.ScenarioParts.{ScenarioParts}
-use Rattle.scenario_text.proofs.SoundScenarios.{sound}
-use Rattle.bus_terms.specs.OverLines.{over}
+use Rattle.scenario_text.proofs.SoundScenarios.{sound, sound_lines}
+use Rattle.scenario_text.specs.OverLines.{over}
 use Rattle.drawn_links.specs.DrawnLosses.{drawn}
 use Rattle.drawn_links.specs.Drawings.{Drawing, lines_of}
 use Rattle.drawn_links.specs.declared.ratio_line.RatioLine.{RatioLine}
@@ -19,9 +18,10 @@ use Rattle.drawn_bus.proofs.CollectedLosses.{collected_enough, with_collected}
 use Rattle.drawn_bus.proofs.LossesInRange.{bus_fits}
 use Rattle.added_losses.specs.LossesAdded.{AreInRange, SaysWithLosses}
 use Rattle.network_text.specs.NetworkGrammar.{network_of}
-use Rattle.plan_tool.specs.Commands.{HasFault}
+use Rattle.plan_tool.specs.Commands.{fault_of}
 use Rattle.plan_tool.specs.DrawnTexts.{IsDrawnText, draw_fault, drawn_lines, drawn_text_fault}
 use Rattle.plan_tool.specs.declared.command.Command.TheVariants.{Draw}
+use Rattle.plan_tool.proofs.DrawnRuns.{over_drawn}
 
 module _ (s : ScenarioParts) (ratios : List RatioLine) (seed : ℕ) where
   -- what is found over links that draw is what is drawn
@@ -29,13 +29,11 @@ module _ (s : ScenarioParts) (ratios : List RatioLine) (seed : ℕ) where
       → links ≡ record { trace = trace; ratios = ratios; seed = seed; frames = frames } → trace.lines ≡ s.trace → frames ≡ s.frames
       → lines ≡ losses_of_bus s (over s (lines_of links)) → lines ≡ drawn_lines s ratios seed
   found_lines links trace frames lines is of_trace of_frames found =
-      found ∙ ap (λ (x : Drawing). losses_of_bus s (over s (lines_of x))) is
-      ∙ ap (λ (t : Lines). losses_of_bus s (over s (drawn t ratios seed frames))) of_trace
-      ∙ ap (λ (n : ℕ). losses_of_bus s (over s (drawn s.trace ratios seed n))) of_frames
+      found ∙ ap (losses_of_bus s) (over_drawn s ratios seed links trace frames is of_trace of_frames)
 
   module _ (said : IsScenario s) where
     pub lines_fit : AreInRange s (drawn_lines s ratios seed)
-    lines_fit = bus_fits s (drawn s.trace ratios seed s.frames) (sound s said)
+    lines_fit = bus_fits s (drawn s.trace ratios seed s.frames) (sound s said) (sound_lines s said)
 
     pub is_drawn_text : (bytes : List ℕ) → SaysWithLosses s (drawn_lines s ratios seed) bytes → drawn_text_fault s ratios seed ≡ None
         → IsDrawnText s ratios seed bytes
@@ -63,7 +61,7 @@ answered P Q fault step (Err e) is fits = tt
 -- and why there is none, in the line after the last
 pub fault_after_last : {A : Type 0} (s : ScenarioParts) (ratios : List RatioLine) (seed : ℕ) (b : List ℕ) (count : ℕ) (r : Result A FaultKind) (k : FaultKind)
     → network_of b ≡ Ok (s, ratios) → r ≡ Err k → RefusesBy r (drawn_text_fault s ratios seed) → count ≡ length (lines b)
-    → HasFault (Draw seed) b (count + 1) k
+    → fault_of (Draw seed) b ≡ Some (count + 1, k)
 fault_after_last s ratios seed b count r k is refused refuses counted =
     let fault : drawn_text_fault s ratios seed ≡ Some k = subst (λ x. RefusesBy x (drawn_text_fault s ratios seed)) refused refuses in
     ap (draw_fault seed b) is ∙ ap (option_map (λ j. (length (lines b) + 1, j))) fault ∙ ap (λ (n : ℕ). Some (n + 1, k)) (sym counted)

@@ -17,7 +17,7 @@ use Rattle.bus_rules.specs.Plans.{last_slot}
 use Rattle.bus_terms.specs.Bus.{bus_deliveries, frames_of, ranks_of, state_at}
 use Rattle.bus_terms.specs.Fates.{bus_fates, fate_at}
 use Rattle.bus_terms.specs.FloodOfText.{ids}
-use Rattle.bus_terms.specs.OverLines.{IsOverScenario, over}
+use Rattle.scenario_text.specs.OverLines.{IsOverScenario, over}
 use Rattle.bus_terms.specs.Rounds.{delivery_in_slot, round_deliveries, round_plan, slot_deliveries, slots_of}
 use Rattle.bus_terms.proofs.PlansOfRounds.{round_contends}
 use Rattle.drawn_bus.proofs.FewOwners.{few_owners}

@@ -1,5 +1,6 @@
 mod PlanWords
+mod ToldAnswers
 mod DrawnLosses
-mod Due
+mod DrawnRuns
 mod FewDeliveries
 mod SeedsInTurn

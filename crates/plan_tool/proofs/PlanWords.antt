@@ -6,9 +6,18 @@ use Rattle.std.proofs.lemmas.Fmt.{decimal_injective}
 use Rattle.std.proofs.lemmas.List.{length-map}
 use Rattle.plan_tool.specs.Commands.{Asks, IsSampled, IsSeeded, Spell}
 use Rattle.plan_tool.specs.declared.command.Command.{Command}
-use Rattle.plan_tool.specs.declared.command.Command.TheVariants.{Draw, Fates, Outcome, Sample}
+use Rattle.plan_tool.specs.declared.command.Command.TheVariants.{Bounds, Draw, Fates, Log, Outcome, Run, Sample}
 
--- a command line of two words
+-- a command line of one word
+pub one_word : (words : List (String Global)) (w : String Global) → length words ≡ 1 → w ≡ get_or words 0 w → map string_bytes words ≡ string_bytes w ∷ []
+one_word [] w one at_w = absurd (omega arith)
+one_word (p ∷ []) w one at_w = rw at_w refl
+one_word (p ∷ q ∷ words) w one at_w = absurd (omega arith)
+
+pub one_same : {w x : List ℕ} → w ≡ x → w ∷ [] ≡ x ∷ []
+one_same p = rw p refl
+
+-- and of two
 pub two_words : (words : List (String Global)) (w a : String Global) → length words ≡ 2 → w ≡ get_or words 0 w → a ≡ get_or words 1 a
     → map string_bytes words ≡ string_bytes w ∷ string_bytes a ∷ []
 two_words [] w a two at_w at_a = absurd (omega arith)
@@ -31,12 +40,16 @@ two_same p q = rw (p, q) refl
 pub three_same : {w x a y b z : List ℕ} → w ≡ x → a ≡ y → b ≡ z → w ∷ a ∷ b ∷ [] ≡ x ∷ y ∷ z ∷ []
 three_same p q r = rw (p, q, r) refl
 
--- neither two words nor three
-pub no_command : (words : List (String Global)) → (length words ≡ 2 → ⊥) → (length words ≡ 3 → ⊥) → (c : Command) → Asks words c → ⊥
-no_command words two three (Draw n) asks = two (omega (arith, ap length asks.0, length-map words string_bytes))
-no_command words two three (Outcome n) asks = two (omega (arith, ap length asks.0, length-map words string_bytes))
-no_command words two three (Fates n) asks = two (omega (arith, ap length asks.0, length-map words string_bytes))
-no_command words two three (Sample f n) asks = three (omega (arith, ap length asks.0, length-map words string_bytes))
+-- neither one word, two nor three
+pub no_command : (words : List (String Global)) → (length words ≡ 1 → ⊥) → (length words ≡ 2 → ⊥) → (length words ≡ 3 → ⊥) → (c : Command)
+    → Asks words c → ⊥
+no_command words one two three (Draw n) asks = two (omega (arith, ap length asks.0, length-map words string_bytes))
+no_command words one two three (Outcome n) asks = two (omega (arith, ap length asks.0, length-map words string_bytes))
+no_command words one two three (Fates n) asks = two (omega (arith, ap length asks.0, length-map words string_bytes))
+no_command words one two three (Run n) asks = two (omega (arith, ap length asks.0, length-map words string_bytes))
+no_command words one two three (Log n) asks = two (omega (arith, ap length asks.0, length-map words string_bytes))
+no_command words one two three (Sample f n) asks = three (omega (arith, ap length asks.0, length-map words string_bytes))
+no_command words one two three Bounds asks = one (omega (arith, ap length asks, length-map words string_bytes))
 
 -- a word and a seed ask for the command of the word with that seed
 module _ (ws : List (List ℕ)) (word : List ℕ) (seed : ℕ) (found : Option Command) (spells : ws ≡ word ∷ decimal seed ∷ []) (few : seed < 10 ^ 13)
@@ -55,13 +68,19 @@ module _ (ws : List (List ℕ)) (word : List ℕ) (seed : ℕ) (found : Option C
   to_spell (Draw n) of = spelled (codes "draw") n of.0 of.1
   to_spell (Outcome n) of = spelled (codes "outcome") n of.0 of.1
   to_spell (Fates n) of = spelled (codes "fates") n of.0 of.1
+  to_spell (Run n) of = spelled (codes "run") n of.0 of.1
+  to_spell (Log n) of = spelled (codes "log") n of.0 of.1
   to_spell (Sample f n) of = absurd of
+  to_spell Bounds of = absurd of
 
   from_spell : (c : Command) → Spell ws c → IsSeeded word seed c
   from_spell (Draw n) asks = seeded (codes "draw") n asks.0 asks.1
   from_spell (Outcome n) asks = seeded (codes "outcome") n asks.0 asks.1
   from_spell (Fates n) asks = seeded (codes "fates") n asks.0 asks.1
+  from_spell (Run n) asks = seeded (codes "run") n asks.0 asks.1
+  from_spell (Log n) asks = seeded (codes "log") n asks.0 asks.1
   from_spell (Sample f n) asks = absurd (omega (arith, ap length (sym spells ∙ asks.0)))
+  from_spell Bounds asks = absurd (omega (arith, ap length (sym spells ∙ asks)))
 
   pub seeded_asked : (c : Command) → (found ≡ Some c) ↔ Spell ws c
   seeded_asked c = (λ got. to_spell c ((is c).0 got), λ asks. (is c).1 (from_spell c asks))
@@ -73,6 +92,9 @@ module _ (ws : List (List ℕ)) (word : List ℕ) (from count : ℕ) (found : Op
   sampled_spell (Draw n) of = absurd of
   sampled_spell (Outcome n) of = absurd of
   sampled_spell (Fates n) of = absurd of
+  sampled_spell (Run n) of = absurd of
+  sampled_spell (Log n) of = absurd of
+  sampled_spell Bounds of = absurd of
   sampled_spell (Sample f n) of = (
     spells ∙ three_same of.0 (ap decimal (sym of.2)) (ap decimal (sym of.3)),
     omega (arith, few, of.2),
@@ -84,6 +106,9 @@ module _ (ws : List (List ℕ)) (word : List ℕ) (from count : ℕ) (found : Op
   spell_sampled (Draw n) asks = absurd (omega (arith, ap length (sym spells ∙ asks.0)))
   spell_sampled (Outcome n) asks = absurd (omega (arith, ap length (sym spells ∙ asks.0)))
   spell_sampled (Fates n) asks = absurd (omega (arith, ap length (sym spells ∙ asks.0)))
+  spell_sampled (Run n) asks = absurd (omega (arith, ap length (sym spells ∙ asks.0)))
+  spell_sampled (Log n) asks = absurd (omega (arith, ap length (sym spells ∙ asks.0)))
+  spell_sampled Bounds asks = absurd (omega (arith, ap length (sym spells ∙ asks)))
   spell_sampled (Sample f n) asks =
       let same = sym spells ∙ asks.0 in
       let fits = asks.1 in

@@ -3,3 +3,5 @@ pub mod DrawnTexts
 pub mod SeedTexts
 pub mod Reports
 pub mod TextsDue
+pub mod Answers
+pub mod CommandLaws

@@ -18,8 +18,14 @@ pub enum Command {
     Outcome { seed: u64 },
     /// What became of each packet that the script puts, on that bus with those losses.
     Fates { seed: u64 },
+    /// The report of a run of the network in true time, with the losses that the seed draws.
+    Run { seed: u64 },
+    /// The same, with the text of its log.
+    Log { seed: u64 },
     /// What became of the packets for each seed of a sample: the first one and their number. No seed is above the greatest.
     Sample { from: u64, count: u64 },
+    /// Which bounds hold of a network for every seed, and which are open and why.
+    Bounds,
 }
 
 /// The command that the words ask for: its word and its numbers, and nothing after them.
@@ -27,9 +33,20 @@ pub fn command_of(words: &[String]) -> Option<Command>
     ensures { (c : CommandOf) → (result ≡ Some c) ↔ Asks words.now c }
 {
     match words {
+        [word] => alone(word.as_str()),
         [word, seed] => seeded_by(word.as_str(), seed.as_str()),
         [word, from, count] => sampled_by(word.as_str(), from.as_str(), count.as_str()),
         _ => None,
+    }
+}
+
+fn alone(word: &str) -> Option<Command>
+    ensures { (c : CommandOf) → (result ≡ Some c) ↔ Spell (word.now ∷ []) c }
+{
+    if word == "bounds" {
+        Some(Command::Bounds)
+    } else {
+        None
     }
 }
 
@@ -58,6 +75,10 @@ fn seeded(word: &str, seed: u64) -> Option<Command>
         Some(Command::Outcome { seed })
     } else if word == "fates" {
         Some(Command::Fates { seed })
+    } else if word == "run" {
+        Some(Command::Run { seed })
+    } else if word == "log" {
+        Some(Command::Log { seed })
     } else {
         None
     }

@@ -5,7 +5,7 @@ ghost use Rattle.text_readers.specs.Faults.{RefusesBy};
 ghost use Rattle.scenario_text.specs.FloodParts.{node_id};
 ghost use Rattle.network_text.specs.NetworkGrammar.{network_of};
 ghost use Rattle.plan_tool.specs.DrawnTexts.{IsDrawnText, drawn_text_fault};
-ghost use Rattle.plan_tool.specs.TextsDue.{Answers};
+ghost use Rattle.plan_tool.specs.Answers.{Answers};
 ghost use Rattle.plan_tool.specs.declared.command.Command.TheVariants as asked;
 
 use crate::answer::{Answer, fault_answer};
@@ -47,7 +47,7 @@ fn network_answer(
     ensures { IfOk result (λ a. Answers (asked.Draw seed) bytes.now a) }
 {
     match drawn(alloc, scenario, ratios, seed)? {
-        Ok(text) => Ok(Answer::Report(text)),
+        Ok(text) => Ok(Answer::Report(text, ())),
         Err(kind) => fault_answer(alloc, line_count(bytes) + 1, kind),
     }
 }

@@ -5,7 +5,7 @@ ghost use Rattle.scenario_text.specs.FloodParts.{node_id};
 ghost use Rattle.bus_terms.specs.Fates.{bus_fates};
 ghost use Rattle.drawn_bus.specs.DrawnScenarios.{drawn_scenario};
 ghost use Rattle.fate_report.specs.FateLines.{fates_text};
-ghost use Rattle.plan_tool.specs.TextsDue.{Answers};
+ghost use Rattle.plan_tool.specs.Answers.{Answers};
 ghost use Rattle.plan_tool.specs.declared.command.Command.TheVariants as asked;
 
 use crate::answer::{Answer, fault_answer};
@@ -29,7 +29,7 @@ pub fn fates_answer(alloc: Global, seed: u64, bytes: &[u8]) -> Result<Answer, Me
     match parse_network(alloc, bytes) {
         Ok((scenario, ratios)) => {
             let report = fates_report(alloc, &scenario, &ratios, seed)?;
-            Ok(Answer::Report(report))
+            Ok(Answer::Report(report, ()))
         }
         Err(ParseFault::Line(line, kind)) => fault_answer(alloc, line, kind),
         Err(ParseFault::Memory) => Err(Memory),

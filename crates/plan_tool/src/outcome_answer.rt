@@ -5,9 +5,9 @@ ghost use Rattle.link_trace.specs.Passes.{Lines};
 ghost use Rattle.scenario_text.specs.FloodParts.{node_id};
 ghost use Rattle.bus_model.specs.BusRuns.{IsBusRun};
 ghost use Rattle.bus_report.specs.BusReport.{bus_report};
-ghost use Rattle.bus_terms.specs.OverLines.{over};
+ghost use Rattle.scenario_text.specs.OverLines.{over};
 ghost use Rattle.drawn_bus.specs.DrawnScenarios.{drawn_scenario};
-ghost use Rattle.plan_tool.specs.TextsDue.{Answers};
+ghost use Rattle.plan_tool.specs.Answers.{Answers};
 ghost use Rattle.plan_tool.specs.declared.command.Command.TheVariants as asked;
 
 use crate::answer::{Answer, fault_answer};
@@ -30,7 +30,7 @@ pub fn outcome_answer(alloc: Global, seed: u64, bytes: &[u8]) -> Result<Answer, 
     match parse_network(alloc, bytes) {
         Ok((scenario, ratios)) => {
             let report = outcome_report(alloc, &scenario, &ratios, seed)?;
-            Ok(Answer::Report(report))
+            Ok(Answer::Report(report, ()))
         }
         Err(ParseFault::Line(line, kind)) => fault_answer(alloc, line, kind),
         Err(ParseFault::Memory) => Err(Memory),

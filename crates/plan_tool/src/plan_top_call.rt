@@ -1,24 +1,15 @@
 //! The call `plan_top`: from words and input to the text that is written.
 
-ghost use Rattle.std.specs.Prelude.{◌≡◌, ◌⊎◌, ◌≤◌, ◌<◌, ◌^◌, ℕ, List, Some, IfOk, length};
+ghost use Rattle.std.specs.Prelude.{◌≡◌, ◌⊎◌, ◌≤◌, ℕ, List, Some};
 ghost use Rattle.lwb_base.specs.Causes.{Rose};
 ghost use Rattle.command_line.specs.Streams.{PartRead, Written, PartWritten};
 ghost use Rattle.plan_tool.specs.Commands.{Asks, IsCommand};
-ghost use Rattle.plan_tool.specs.TextsDue.{Answers, ReportDue, FaultDue, UsageDue, SomeDue, IsComplete, IsSample};
+ghost use Rattle.plan_tool.specs.TextsDue.{ReportDue, FaultDue, UsageDue, SomeDue, IsComplete, IsSample};
 ghost use Rattle.plan_tool.specs.declared.command.Command.{Command as CommandOf};
 
-use crate::answer::Answer;
-use crate::command::{Command, command_of};
-use crate::draw_answer::draw_answer;
-use crate::fates_answer::fates_answer;
-use crate::outcome_answer::outcome_answer;
-use crate::sample_answer::sample_answer;
-use crate::seeds_call::write_seeds;
-use command_line::{TOO_LONG, input, say};
-use lwb_base::{Memory, ReadStop, Sink, Source};
+use crate::command::Command;
+use lwb_base::{Sink, Source};
 use std::alloc::Global;
-
-const USAGE: &[u8; 65] = b"usage: draw SEED | outcome SEED | fates SEED | sample FROM COUNT\n";
 
 /// Does what the words of the command line ask for: it reads the source to its end, and writes the text that is due. The words
 /// do not contain the program's name. Returns the status. 0: the whole text was written. 1: the input was rejected. 2: the words
@@ -28,7 +19,9 @@ const USAGE: &[u8; 65] = b"usage: draw SEED | outcome SEED | fates SEED | sample
 /// scenario with all losses that the seed draws (`IsDrawnText`). So `run` of it delivers and drops these (`top` of `replay_tool`,
 /// clause `report`: `AgreesWithBus`). The text of `outcome` is the bus report of the scenario with all these losses, and that of
 /// `fates` says what became of each packet that it puts, and whether the host of its round delivered it. That of `sample` is the texts of
-/// its seeds, one after another (`IsReport`). It writes each before it runs the next one, which no clause says.
+/// its seeds, one after another (`IsReport`). It writes each before it runs the next one, which no clause says. The texts of `run` and `log`
+/// are those of a run of the scenario with all these losses in true time, of which all is said that is said of a run of `top` in
+/// `replay_tool` (`IsOfRun`).
 /// With status 1 the line names the first fault by the grammar of networks, or, of `draw`, the line after the last where there is no
 /// such text: `TooBig` for more nodes times frames than a run takes, else `TooMany` for more lines than a scenario has.
 pub fn plan_top<S: Source, K: Sink>(
@@ -63,32 +56,5 @@ pub fn plan_top<S: Source, K: Sink>(
     ensures complete_usage { (IsCommand words.now → ⊥) → (Rose (K.faults sink.old) (K.faults sink.new) → ⊥) → result ≡ 2 }
     ensures untouched { (IsCommand words.now → ⊥) → source.new ≡ source.old }
 {
-    let Some(command) = command_of(words) else {
-        return say(sink, USAGE, 2);
-    };
-    let bytes = match input(alloc, true, source) {
-        Ok(bytes) => bytes,
-        Err(ReadStop::ReadFault) => return 3,
-        Err(ReadStop::TooLong) => return say(sink, TOO_LONG, 1),
-        Err(ReadStop::Memory) => return 5,
-    };
-    match answer(alloc, command, &bytes) {
-        Ok(Answer::Report(text)) => say(sink, text.as_bytes(), 0),
-        Ok(Answer::Fault(text)) => say(sink, text.as_bytes(), 1),
-        Ok(Answer::Seeds(network)) => write_seeds(alloc, &network, sink),
-        Err(Memory) => 5,
-    }
-}
-
-// What the command has to write of these bytes.
-fn answer(alloc: Global, command: Command, bytes: &[u8]) -> Result<Answer, Memory>
-    requires { length bytes.now < 2 ^ 31 }
-    ensures { IfOk result (λ a. Answers command bytes.now a) }
-{
-    match command {
-        Command::Draw { seed } => draw_answer(alloc, seed, bytes),
-        Command::Outcome { seed } => outcome_answer(alloc, seed, bytes),
-        Command::Fates { seed } => fates_answer(alloc, seed, bytes),
-        Command::Sample { from, count } => sample_answer(alloc, from, count, bytes),
-    }
+    command_line::top::<Command, S, K>(alloc, words, source, sink).status
 }

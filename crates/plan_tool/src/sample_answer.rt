@@ -1,7 +1,7 @@
 //! The answer to the command `sample`.
 
-ghost use Rattle.std.specs.Prelude.{◌<◌, ◌^◌, IfOk, length};
-ghost use Rattle.plan_tool.specs.TextsDue.{Answers};
+ghost use Rattle.std.specs.Prelude.{◌+◌, ◌<◌, ◌^◌, IfOk, length};
+ghost use Rattle.plan_tool.specs.Answers.{Answers};
 ghost use Rattle.plan_tool.specs.declared.command.Command.TheVariants as asked;
 
 use crate::answer::{Answer, fault_answer};
@@ -13,11 +13,12 @@ use text_readers::ParseFault;
 
 /// The network that the bytes are a text of, with the seeds whose texts are to be written; or the line of their first fault.
 pub fn sample_answer(alloc: Global, from: u64, count: u64, bytes: &[u8]) -> Result<Answer, Memory>
-    requires { length bytes.now < 2 ^ 31 }
+    requires short { length bytes.now < 2 ^ 31 }
+    requires few { from + count < 2 ^ 64 }
     ensures { IfOk result (λ a. Answers (asked.Sample from count) bytes.now a) }
 {
     match parse_network(alloc, bytes) {
-        Ok((scenario, ratios)) => Ok(Answer::Seeds(SampledNetwork {
+        Ok((scenario, ratios)) => Ok(Answer::Parts(SampledNetwork {
             scenario,
             ratios,
             from,

@@ -5,7 +5,7 @@ ghost use Rattle.text_writers.specs.Lines.{line_text, numbered};
 ghost use Rattle.link_trace.specs.Passes.{Lines};
 ghost use Rattle.scenario_text.specs.FloodParts.{node_id};
 ghost use Rattle.bus_model.specs.BusRuns.{IsBusRun};
-ghost use Rattle.bus_terms.specs.OverLines.{over};
+ghost use Rattle.scenario_text.specs.OverLines.{over};
 ghost use Rattle.fate_report.specs.SampleLines.{sample_text, streams_text, times_text};
 ghost use Rattle.plan_tool.specs.SeedTexts.{seed_text as seed_text_of};
 

@@ -1,5 +1,5 @@
 pub mod Words
-pub mod Due
+mod ToldAnswers
 pub mod CheckedLogs
 pub mod ReportLines
 pub mod ProbeLines

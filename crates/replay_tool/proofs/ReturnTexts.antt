@@ -11,7 +11,7 @@ use Rattle.host_return.specs.Returned.{ReturnedParts}
 use Rattle.host_return.specs.declared.returned.Return.{Return as HostReturn}
 use Rattle.replay_tool.specs.ReturnReport.{node_probes, return_line, return_report}
 use Rattle.bus_report.specs.ReportLines.{report_lines}
-use Rattle.replay_tool.specs.RunReport.{energy_lines}
+use Rattle.run_report.specs.RunReport.{energy_lines}
 
 joined : (t0 t1 t2 t3 t4 a b r e : List ℕ) → t0 ≡ [] → t1 ≡ t0 ++ a → t2 ≡ t1 ++ b → t3 ≡ t2 ++ r → t4 ≡ t3 ++ e → t4 ≡ a ++ b ++ (r ++ e)
 joined t0 t1 t2 t3 t4 a b r e none first second third fourth =

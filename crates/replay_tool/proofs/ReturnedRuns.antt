@@ -9,7 +9,7 @@ use Rattle.bus_terms.specs.Bus.{bus_deliveries, bus_drops}
 use Rattle.air_log.specs.declared.entry.Entry.{Entry}
 use Rattle.air_log.specs.Lawful.{Lawful}
 use Rattle.law_bus.proofs.BusRuns.{bus_run}
-use Rattle.replay_tool.specs.Reports.{IsOfRun, Telling}
+use Rattle.run_report.specs.RunsTold.{IsOfRun, Telling}
 
 pub returned_run : (s : ScenarioParts) → IsScenario s → (air : List Entry) → Lawful s (scenario_clock s) air → (told : Telling) (text : List ℕ)
     → text ≡ told (bus_deliveries s) (bus_drops s) s (scenario_clock s) air → IsOfRun told s air text

@@ -1,5 +1,5 @@
 -- The commands: the words that ask for each, whether it reads, and which bytes its grammar rejects.
-use Rattle.std.specs.Prelude.{◌≡◌, ◌<◌, ◌^◌, ℕ, List, [], ◌∷◌, Bool, true, false, Option, Some, None, String, codes, decimal, map, string_bytes}
+use Rattle.std.specs.Prelude.{◌≡◌, ◌<◌, ◌^◌, ℕ, List, [], ◌∷◌, Bool, true, false, Option, None, String, codes, decimal, map, string_bytes}
 use Rattle.std.specs.declared.alloc.Global.{Global}
 use Rattle.std.specs.Result.{result_err}
 use Rattle.scenario_text.specs.FloodGrammar.{flood_of}
@@ -8,6 +8,7 @@ use Rattle.text_readers.specs.declared.fault.FaultKind.{FaultKind}
 use Rattle.scenario_maker.specs.Made.{IsSize}
 use Rattle.deadline_plan.specs.DeadlineText.{plan_of}
 use Rattle.air_check.specs.CheckedText.{checked_text}
+use Rattle.command_line.specs.TextsDue.{AskForOne, AskToRead}
 use Rattle.replay_tool.specs.declared.command.Command.{Command}
 use Rattle.replay_tool.specs.declared.command.Command.TheVariants.{Flood, Run, Log, Bus, Demo, Check, Deadlines, Times, Return}
 
@@ -29,15 +30,8 @@ Asks words c = Spell (map string_bytes words) c
 
 -- whether it reads its source
 abbrev pub reads : Command → Bool
-reads Flood = true
-reads Run = true
-reads Log = true
-reads Bus = true
 reads (Demo seed nodes frames) = false
-reads Check = true
-reads Deadlines = true
-reads Times = true
-reads Return = true
+reads other = true
 
 -- the first fault of the bytes that it reads, by its grammar
 abbrev pub fault_of : Command → List ℕ → Option (ℕ × FaultKind)
@@ -51,18 +45,12 @@ fault_of Deadlines b = result_err (plan_of b)
 fault_of Times b = result_err (scenario_of b)
 fault_of Return b = result_err (scenario_of b)
 
-abbrev pub IsTextOf : Command → List ℕ → Type 0
-IsTextOf c b = fault_of c b ≡ None
-
-abbrev pub HasFault : Command → List ℕ → ℕ → FaultKind → Type 0
-HasFault c b n k = fault_of c b ≡ Some (n, k)
-
 -- the words ask for some command, and for one that reads
 abbrev pub IsCommand : List (String Global) → Type 0
-IsCommand words = (c : Command) × Asks words c
+IsCommand = AskForOne Asks
 
 abbrev pub IsReading : List (String Global) → Type 0
-IsReading words = (c : Command) × Asks words c × (reads c ≡ true)
+IsReading = AskToRead Asks reads
 
 abbrev pub usage : List ℕ
 usage = codes "usage: flood | run | log | bus | demo SEED NODES FRAMES | check | deadlines | times | return\n"

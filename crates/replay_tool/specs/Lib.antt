@@ -1,5 +1,4 @@
 pub mod FloodReport
-pub mod RunReport
 pub mod Summary
 pub mod DeadlineReport
 pub mod CheckReport
@@ -9,4 +8,8 @@ pub mod Commands
 pub mod Reports
 pub mod CommandLine
 pub mod Answers
+pub mod CommandLaws
 pub mod RunsKept
+-- what the clauses on runs cite
+pub use Rattle.run_report.specs.RunReport
+pub use Rattle.run_report.specs.RunsTold

@@ -1,5 +1,5 @@
 -- The report of each command, and the log that comes with it.
-use Rattle.std.specs.Prelude.{◌≡◌, ℕ, List, [], ◌++◌, Ok}
+use Rattle.std.specs.Prelude.{◌≡◌, ℕ, List, [], Ok}
 use Rattle.scenario_text.specs.FloodParts.{FloodParts}
 use Rattle.scenario_text.specs.ScenarioParts.{ScenarioParts}
 use Rattle.scenario_text.specs.FloodGrammar.{flood_of}
@@ -8,22 +8,17 @@ use Rattle.scenario_maker.specs.Made.{made}
 use Rattle.deadline_plan.specs.Admission.{PlanOfDeadlines}
 use Rattle.deadline_plan.specs.DeadlineText.{plan_of}
 use Rattle.scenario_clocks.specs.StatedClocks.{stated_clock, scenario_clock}
-use Rattle.bus_rules.specs.declared.delivery.Delivery.{Delivery}
-use Rattle.bus_rules.specs.declared.delivery.DropLine.{DropLine}
-use Rattle.bus_terms.specs.Bus.{bus_deliveries, bus_drops}
 use Rattle.bus_terms.specs.FloodOfText.{outcome}
 use Rattle.air_log.specs.declared.entry.Entry.{Entry}
 use Rattle.air_log.specs.FloodLaw.{FloodLaw}
-use Rattle.air_log.specs.Lawful.{Lawful}
-use Rattle.air_log.specs.LogText.{log_text}
 use Rattle.bus_time.specs.StampErrors.{AllErrLittle}
 use Rattle.bus_time.specs.Stamps.{AreStamps}
 use Rattle.bus_time.specs.declared.stamp.Stamp.{Stamp}
 use Rattle.host_return.specs.AfterReturns.{AllProbed, AllQuiet}
 use Rattle.host_return.specs.Returned.{IsReturned, ReturnedParts}
-use Rattle.law_bus.specs.BusRuns.{AgreesWithBus}
 use Rattle.replay_tool.specs.FloodReport.{flood_report}
-use Rattle.replay_tool.specs.RunReport.{run_report}
+use Rattle.run_report.specs.RunReport.{log_report, run_report}
+use Rattle.run_report.specs.RunsTold.{IsOfRun}
 use Rattle.bus_report.specs.BusReport.{bus_report}
 use Rattle.replay_tool.specs.Summary.{summary}
 use Rattle.air_check.specs.CheckedText.{checked_text}
@@ -34,40 +29,14 @@ use Rattle.replay_tool.specs.TimesReport.{stamp_report}
 use Rattle.replay_tool.specs.declared.command.Command.{Command}
 use Rattle.replay_tool.specs.declared.command.Command.TheVariants.{Flood, Run, Log, Bus, Demo, Check, Deadlines, Times, Return}
 
--- the bytes are a text of a flood, of a scenario, of a scenario with a log, or of streams with deadlines, of which this holds
-abbrev pub OfFlood : List ℕ → (FloodParts → Type 0) → Type 0
-OfFlood b P = (f : FloodParts) × (flood_of b ≡ Ok f) × P f
-
+-- the bytes are a text of a scenario of which this holds
 abbrev pub OfScenario : List ℕ → (ScenarioParts → Type 0) → Type 0
 OfScenario b P = (s : ScenarioParts) × (scenario_of b ≡ Ok s) × P s
-
-abbrev pub OfChecked : List ℕ → (ScenarioParts → List Entry → Type 0) → Type 0
-OfChecked b P = (s : ScenarioParts) × (log : List Entry) × (checked_text b ≡ Ok (s, log)) × P s log
-
-abbrev pub OfPlan : List ℕ → (PlanOfDeadlines → Type 0) → Type 0
-OfPlan b P = (p : PlanOfDeadlines) × (plan_of b ≡ Ok p) × P p
 
 -- the report of a flood, and a log of it over the clocks that it states
 pub record IsFloodReport (f : FloodParts) (air : List Entry) (text : List ℕ) : Type 0 where
   pub is : text ≡ flood_report (outcome f)
   pub law : FloodLaw f (stated_clock f) air
-
--- how a run of a scenario over some clocks is given: by what is delivered and lost in it, and by its log
-abbrev pub Telling : Type 0
-Telling = List Delivery → List DropLine → ScenarioParts → (ℕ → ℕ → ℕ) → List Entry → List ℕ
-
--- The headline, of the text that tells of a run and of the log of this run. All is over the clocks that the scenario states
-pub record IsOfRun (told : Telling) (s : ScenarioParts) (air : List Entry) (text : List ℕ) : Type 0 where
-  pub law : Lawful s (scenario_clock s) air
-  -- the printed deliveries, and the printed drops, are the ideal single-hop bus's
-  pub is : text ≡ told (bus_deliveries s) (bus_drops s) s (scenario_clock s) air
-  -- the log is safe: one node at most initiates in a data slot, different steps never overlap, relays of one flood differ only by
-  -- counter; and its trails deliver and lose these, received by relay paths, each stream in order and no packet twice
-  pub bus : AgreesWithBus s (scenario_clock s) air
-
--- the report, with the text of the log after it
-abbrev pub log_report : List Delivery → List DropLine → ScenarioParts → (ℕ → ℕ → ℕ) → List Entry → List ℕ
-log_report made lost s clocks air = run_report made lost s clocks air ++ log_text air
 
 -- a run that is given by its stamps, which err little
 pub record IsTimesReport (s : ScenarioParts) (air : List Entry) (text : List ℕ) : Type 0 where
@@ -88,12 +57,12 @@ pub record IsReturnReport (s : ScenarioParts) (air : List Entry) (text : List �
   pub quiet : AllQuiet returned
 
 abbrev pub IsReport : Command → List ℕ → List Entry → List ℕ → Type 0
-IsReport Flood b air text = OfFlood b (λ f. IsFloodReport f air text)
+IsReport Flood b air text = (f : FloodParts) × (flood_of b ≡ Ok f) × IsFloodReport f air text
 IsReport Run b air text = OfScenario b (λ s. IsOfRun run_report s air text)
 IsReport Log b air text = OfScenario b (λ s. IsOfRun log_report s air text)
 IsReport Bus b air text = OfScenario b (λ s. (air ≡ []) × (text ≡ bus_report s))
 IsReport (Demo seed nodes frames) b air text = IsOfRun summary (made seed nodes frames) air text
-IsReport Check b air text = OfChecked b (λ s log. (air ≡ []) × IsCheckReport s log text)
-IsReport Deadlines b air text = OfPlan b (λ p. (air ≡ []) × IsDeadlineReport p text)
+IsReport Check b air text = (s : ScenarioParts) × (log : List Entry) × (checked_text b ≡ Ok (s, log)) × (air ≡ []) × IsCheckReport s log text
+IsReport Deadlines b air text = (p : PlanOfDeadlines) × (plan_of b ≡ Ok p) × (air ≡ []) × IsDeadlineReport p text
 IsReport Times b air text = OfScenario b (λ s. IsTimesReport s air text)
 IsReport Return b air text = OfScenario b (λ s. IsReturnReport s air text)

@@ -6,7 +6,7 @@ use Rattle.bus_rules.specs.declared.delivery.Delivery.{Delivery}
 use Rattle.bus_rules.specs.declared.delivery.DropLine.{DropLine}
 use Rattle.air_log.specs.declared.entry.Entry.{Entry}
 use Rattle.host_return.specs.declared.returned.Return.{Return}
-use Rattle.replay_tool.specs.RunReport.{run_report}
+use Rattle.run_report.specs.RunReport.{run_report}
 
 -- `return FRAME NODE RANK`
 abbrev pub return_line : Return → List ℕ

@@ -34,25 +34,6 @@ pub enum Command {
     Return,
 }
 
-impl Command {
-    /// Whether the command reads its source.
-    pub fn reads(self) -> bool
-        ensures { result ≡ reads_of self }
-    {
-        match self {
-            Command::Demo { .. } => false,
-            Command::Flood
-            | Command::Run
-            | Command::Log
-            | Command::Bus
-            | Command::Check
-            | Command::Deadlines
-            | Command::Times
-            | Command::Return => true,
-        }
-    }
-}
-
 /// The command that the words ask for: its one word, or `demo` and three numbers, and nothing after it.
 pub fn command_of(words: &[String]) -> Option<Command>
     ensures { (c : CommandOf) → (result ≡ Some c) ↔ Asks words.now c }

@@ -6,9 +6,9 @@ ghost use Rattle.replay_tool.specs.Answers.{Answers};
 ghost use Rattle.replay_tool.specs.declared.command.Command.TheVariants as asked;
 
 use crate::answer::Answer;
-use crate::scenario_run::run_of;
 use crate::summary::summary;
 use lwb_base::Memory;
+use run_report::run_of;
 use scenario_maker::made;
 use scenario_text::Scenario;
 use std::alloc::Global;

@@ -12,15 +12,13 @@ ghost use Rattle.replay_tool.specs.RunsKept.{KeepsRun};
 ghost use Rattle.replay_tool.specs.declared.command.Command.TheVariants as asked;
 
 use crate::answer::{Answer, fault_answer};
-use crate::energy_lines::write_energies;
 use crate::return_lines::{write_probes, write_returns};
-use crate::scenario_run::run_of;
 use air_log::{Air, Idle, NodeCharge};
 use bus_report::write_report_lines;
 use bus_rules::{Delivery, DropLine};
 use host_return::{ListsIdle, Returned, Runner, follow_listed};
 use lwb_base::Memory;
-use lwb_world::RunParts;
+use run_report::{RunParts, run_of, write_energies};
 use scenario_text::{ParseFault, Scenario, parse};
 use std::alloc::Global;
 

@@ -7,9 +7,9 @@ ghost use Rattle.replay_tool.specs.TimesReport.{stamp_line};
 ghost use Rattle.replay_tool.specs.declared.command.Command.TheVariants as asked;
 
 use crate::answer::{Answer, fault_answer};
-use crate::scenario_run::run_of;
 use bus_time::{Stamp, stamps};
 use lwb_base::Memory;
+use run_report::run_of;
 use scenario_text::{ParseFault, Scenario, parse};
 use std::alloc::{AllocError, Global};
 use text_writers::{write_line, write_lines};

@@ -1,27 +1,15 @@
 //! The call `top`: from words and input to the text that is written.
 
-ghost use Rattle.std.specs.Prelude.{◌≡◌, ◌≢◌, ◌≤◌, ◌<◌, ◌^◌, ℕ, List, [], length, IfOk, IsErrOf, false};
+ghost use Rattle.std.specs.Prelude.{◌≡◌, ◌≢◌, ◌≤◌, ℕ, List, []};
 ghost use Rattle.lwb_base.specs.Causes.{Rose};
 ghost use Rattle.replay_tool.specs.Commands.{Asks, IsCommand, IsReading, reads};
-ghost use Rattle.command_line.specs.Streams.{IsInput, HasRead, PartRead, Written, PartWritten};
-ghost use Rattle.lwb_base.specs.declared.read.ReadStop.TheVariants as stop;
+ghost use Rattle.command_line.specs.Streams.{IsInput, PartRead, Written, PartWritten};
 ghost use Rattle.replay_tool.specs.CommandLine.{ReportDue, FaultDue, UsageDue, SomeDue, IsComplete};
-ghost use Rattle.replay_tool.specs.Answers.{Answers, IsAsked};
 ghost use Rattle.replay_tool.specs.declared.command.Command.{Command as CommandOf};
 
-use crate::answer::Answer;
-use crate::bus_answer::bus_answer;
-use crate::check_answer::check_answer;
-use crate::command::{Command, command_of};
-use crate::deadline_answer::deadline_answer;
-use crate::demo_answer::demo_answer;
-use crate::flood_answer::flood_answer;
-use crate::return_answer::return_answer;
-use crate::run_answer::{log_answer, run_answer};
-use crate::times_answer::times_answer;
+use crate::command::Command;
 use air_log::Air;
-use command_line::{TOO_LONG, say};
-use lwb_base::{Memory, ReadStop, Sink, Source};
+use lwb_base::{Sink, Source};
 use std::alloc::Global;
 
 /// How a call of `top` ended.
@@ -34,9 +22,6 @@ pub struct Outcome {
     /// where a report could not be written.
     pub air: Air,
 }
-
-const USAGE: &[u8; 93] =
-    b"usage: flood | run | log | bus | demo SEED NODES FRAMES | check | deadlines | times | return\n";
 
 /// Does what the words of the command line ask for: it reads the source to its end, or nothing for `demo`, and writes the
 /// text that is due. The words do not contain the program's name.
@@ -77,64 +62,9 @@ pub fn top<S: Source, K: Sink>(
     ensures complete_usage { (IsCommand words.now → ⊥) → (Rose (K.faults sink.old) (K.faults sink.new) → ⊥) → result.status ≡ 2 }
     ensures untouched { (IsReading words.now → ⊥) → source.new ≡ source.old }
 {
-    let Some(command) = command_of(words) else {
-        return without_log(alloc, say(sink, USAGE, 2));
-    };
-    let bytes = match input(alloc, command, source) {
-        Ok(bytes) => bytes,
-        Err(ReadStop::ReadFault) => return without_log(alloc, 3),
-        Err(ReadStop::TooLong) => return without_log(alloc, say(sink, TOO_LONG, 1)),
-        Err(ReadStop::Memory) => return without_log(alloc, 5),
-    };
-    match answer(alloc, command, &bytes) {
-        Ok(Answer::Report(text, air)) => {
-            let status = say(sink, text.as_bytes(), 0);
-            Outcome { status, air }
-        }
-        Ok(Answer::Fault(text)) => without_log(alloc, say(sink, text.as_bytes(), 1)),
-        Err(Memory) => without_log(alloc, 5),
-    }
-}
-
-// What the command reads: the source to its end, or nothing.
-fn input<S: Source>(alloc: Global, command: Command, source: &mut S) -> Result<Vec<u8>, ReadStop>
-    ensures bytes { HasRead (reads command) (S.left source.old) (S.left source.new) result }
-    ensures fault { IsErrOf result stop.ReadFault → Rose (S.faults source.old) (S.faults source.new) }
-    ensures later { S.faults source.old ≤ S.faults source.new }
-    ensures untouched { reads command ≡ false → source.new ≡ source.old }
-{
-    command_line::input(alloc, command.reads(), source)
-}
-
-// What the command has to write of these bytes.
-fn answer(alloc: Global, command: Command, bytes: &[u8]) -> Result<Answer, Memory>
-    requires length { length bytes.now < 2 ^ 31 }
-    requires asked { IsAsked command }
-    ensures { IfOk result (λ a. Answers command bytes.now a) }
-{
-    match command {
-        Command::Flood => flood_answer(alloc, bytes),
-        Command::Run => run_answer(alloc, bytes),
-        Command::Log => log_answer(alloc, bytes),
-        Command::Bus => bus_answer(alloc, bytes),
-        Command::Demo {
-            seed,
-            nodes,
-            frames,
-        } => demo_answer(alloc, seed, nodes, frames),
-        Command::Check => check_answer(alloc, bytes),
-        Command::Deadlines => deadline_answer(alloc, bytes),
-        Command::Times => times_answer(alloc, bytes),
-        Command::Return => return_answer(alloc, bytes),
-    }
-}
-
-fn without_log(alloc: Global, status: u8) -> Outcome
-    ensures status { result.status ≡ status }
-    ensures air { result.air ≡ [] }
-{
+    let ended = command_line::top::<Command, S, K>(alloc, words, source, sink);
     Outcome {
-        status,
-        air: Air::new(alloc),
+        status: ended.status,
+        air: ended.log,
     }
 }

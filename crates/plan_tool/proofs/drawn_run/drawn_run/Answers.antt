@@ -1,13 +1,11 @@
-use Rattle.std.proofs.Common.{◌≡◌, ◌<◌, ◌^◌, ℕ, List, IfOk, length, sym, ◌∙◌, ap, subst}
+use Rattle.std.proofs.Common.{◌<◌, ◌^◌, List, IfOk, length, sym, subst}
 use Rattle.std.proofs.lemmas.Result.{IfOk-weaker}
 use Rattle.bus_model.specs.BusRuns.{BusRun, IsBusRun}
 use Rattle.bus_rules.specs.declared.delivery.Delivery.{Delivery}
-use Rattle.bus_terms.specs.OverLines.{over}
-use Rattle.drawn_bus.specs.DrawnScenarios.{drawn_scenario}
-use Rattle.drawn_links.specs.DrawnLosses.{drawn}
-use Rattle.drawn_links.specs.Drawings.{Drawing, lines_of}
-use Rattle.link_trace.specs.Passes.{Lines}
+use Rattle.scenario_text.specs.OverLines.{over}
+use Rattle.drawn_links.specs.Drawings.{lines_of}
 use Rattle.scenario_text.specs.ScenarioParts.{ScenarioParts}
+use Rattle.plan_tool.proofs.DrawnRuns.{over_drawn}
 use Rattle.plan_tool.proofs.FewDeliveries.{few_deliveries}
 use Rattle.plan_tool.proofs.drawn_run.drawn_run.Goals as goal
 
@@ -15,10 +13,8 @@ pub returns-clause-run : goal.returns-clause-run
 returns-clause-run c =
     let s : ScenarioParts = c.args.scenario.now in
     let ratios = c.args.ratios.now.lines in
-    let same : over s (lines_of c.new-links.result) ≡ drawn_scenario s ratios c.args.seed =
-    ap (λ (x : Drawing). over s (lines_of x)) c.new-links.ensures
-    ∙ ap (λ (t : Lines). over s (drawn t ratios c.args.seed c.frames.result)) c.trace.ensures.value
-    ∙ ap (λ (n : ℕ). over s (drawn s.trace ratios c.args.seed n)) c.frames.ensures.value in
+    let same = over_drawn s ratios c.args.seed c.new-links.result c.trace.result.now c.frames.result c.new-links.ensures c.trace.ensures.value
+    c.frames.ensures.value in
     subst (λ (x : ScenarioParts). IfOk c.run_over.result (IsBusRun x)) same c.run_over.ensures
 
 pub returns-clause-few : goal.returns-clause-few

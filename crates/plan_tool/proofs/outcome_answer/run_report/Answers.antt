@@ -4,7 +4,7 @@ use Rattle.bus_report.specs.ReportLines.{report_lines}
 use Rattle.bus_rules.specs.declared.delivery.Delivery.{Delivery}
 use Rattle.bus_rules.specs.declared.delivery.DropLine.{DropLine}
 use Rattle.bus_terms.specs.Bus.{bus_deliveries, bus_drops}
-use Rattle.bus_terms.specs.OverLines.{over}
+use Rattle.scenario_text.specs.OverLines.{over}
 use Rattle.scenario_text.specs.ScenarioParts.{ScenarioParts}
 use Rattle.plan_tool.proofs.outcome_answer.run_report.Goals as goal
 

@@ -2,7 +2,7 @@ use Rattle.std.proofs.Common.{◌≡◌, ◌++◌, ◌∷◌, [], List, ℕ, cod
 use Rattle.scenario_text.specs.ScenarioParts.{ScenarioParts}
 use Rattle.text_writers.specs.Lines.{line_text, numbered}
 use Rattle.bus_report.specs.BusReport.{cost_lines}
-use Rattle.bus_terms.specs.OverLines.{over}
+use Rattle.scenario_text.specs.OverLines.{over}
 use Rattle.fate_report.specs.SampleLines.{streams_text, times_text}
 use Rattle.plan_tool.proofs.SeedsInTurn.{four_parts}
 use Rattle.plan_tool.proofs.seed_text.run_text.Goals as goal

@@ -1,7 +1,7 @@
 use Rattle.std.proofs.Common.{◌≡◌, ◌<◌, ◌^◌, ◌++◌, List, ℕ, append_assoc, flat_map, length, refl, sym, ◌∙◌, ap, string_bytes, subst}
 use Rattle.scenario_text.specs.ScenarioParts.{ScenarioParts}
 use Rattle.bus_terms.specs.Fates.{bus_fates, hosted_counts, stream_counts}
-use Rattle.bus_terms.specs.OverLines.{over}
+use Rattle.scenario_text.specs.OverLines.{over}
 use Rattle.bus_terms.specs.declared.packets.HostedCount.{HostedCount}
 use Rattle.bus_terms.specs.declared.packets.PutFate.{PutFate}
 use Rattle.bus_terms.specs.declared.packets.StreamCounts.{StreamCounts}

@@ -1,7 +1,7 @@
 use Rattle.std.proofs.Common.{◌≡◌, ◌++◌, List, ℕ, append_assoc, flat_map, ◌∙◌, ap, string_bytes}
 use Rattle.scenario_text.specs.ScenarioParts.{ScenarioParts}
 use Rattle.bus_terms.specs.Fates.{host_latency_counts, latency_counts}
-use Rattle.bus_terms.specs.OverLines.{IsOverScenario, over}
+use Rattle.scenario_text.specs.OverLines.{IsOverScenario, over}
 use Rattle.bus_terms.specs.declared.packets.LatencyCount.{LatencyCount}
 use Rattle.fate_report.specs.SampleLines.{host_line, latency_line}
 use Rattle.plan_tool.proofs.seed_text.write_times.Goals as goal

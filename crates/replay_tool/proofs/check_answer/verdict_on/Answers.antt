@@ -7,8 +7,6 @@ returns c =
       c.args.s.now,
       c.args.log.now,
       read,
-      (
-        c.new.ensures,
-        check_report c.args.s.now c.requires c.args.log.now c.in_ok-verdict.verdict c.in_ok-verdict.ensures.verdict _ c.in_ok-report.ensures,
-      ),
+      c.new.ensures,
+      check_report c.args.s.now c.requires c.args.log.now c.in_ok-verdict.verdict c.in_ok-verdict.ensures.verdict _ c.in_ok-report.ensures,
     )

@@ -1,6 +1,6 @@
 use Rattle.std.proofs.Common.{List, string_bytes, subst, sym}
 use Rattle.air_log.specs.declared.entry.Entry.{Entry}
-use Rattle.replay_tool.specs.Reports.{IsOfRun}
+use Rattle.run_report.specs.RunsTold.{IsOfRun}
 use Rattle.replay_tool.specs.ReturnReport.{return_report}
 use Rattle.replay_tool.proofs.ReturnedRuns.{returned_run}
 use Rattle.replay_tool.proofs.return_answer.return_of.Goals as goal

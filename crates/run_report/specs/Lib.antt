@@ -1,0 +1,3 @@
+pub mod RunReport
+pub mod RunsTold
+pub mod RunsLeft
