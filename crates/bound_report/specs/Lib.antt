@@ -1,0 +1,2 @@
+pub mod LineNumbers
+pub mod BoundLines

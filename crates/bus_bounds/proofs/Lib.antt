@@ -1,0 +1,6 @@
+mod ScriptPower
+mod PowerSaid
+mod Searches
+mod FirstsKept
+mod FailoversKept
+mod FindingsKept

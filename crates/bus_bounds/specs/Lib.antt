@@ -1,0 +1,3 @@
+pub mod PowerLines
+pub mod BoundFindings
+pub mod KeptBounds
