@@ -1,3 +1,5 @@
 mod FloodTexts
 mod SameDecisions
 mod SameReports
+mod SameLosses
+mod SamePlanReports

@@ -20,9 +20,10 @@ use Rattle.law_terms.specs.LawfulRuns.{IsLawfulRun}
 use Rattle.air_log.specs.declared.entry.Entry.{Entry}
 use Rattle.air_log.specs.Lawful.{Lawful}
 use Rattle.air_log.specs.LogText.{log_text}
-use Rattle.replay_tool.specs.Reports.{IsOfRun, IsFloodReport, IsReturnReport, IsTimesReport, Telling, OfScenario, log_report}
+use Rattle.run_report.specs.RunsTold.{IsOfRun, Telling}
+use Rattle.replay_tool.specs.Reports.{IsFloodReport, IsReturnReport, IsTimesReport, OfScenario}
 use Rattle.bus_report.specs.ReportLines.{report_lines}
-use Rattle.replay_tool.specs.RunReport.{run_report, node_energy, energy_line}
+use Rattle.run_report.specs.RunReport.{run_report, log_report, node_energy, energy_line}
 use Rattle.replay_tool.specs.Summary.{summary, number_line, sent_ticks, on_ticks}
 use Rattle.bus_report.specs.BusReport.{bus_report}
 use Rattle.replay_tool.specs.CheckReport.{IsCheckReport, verdict_line}
@@ -57,7 +58,7 @@ pub record Laws : Type 0 where
   pub verdict : (s : ScenarioParts) (clocks : ℕ → ℕ → ℕ) (air : List Entry) (a b : Verdict) → IsVerdict s clocks air a → IsVerdict s clocks air b → a ≡ b
 
 -- what a text says, it says alone
-one_said : {X E : Type 0} (r : Result X E) (x y : X) → r ≡ Ok x → r ≡ Ok y → x ≡ y
+pub one_said : {X E : Type 0} (r : Result X E) (x y : X) → r ≡ Ok x → r ≡ Ok y → x ≡ y
 one_said r x y is also = cc
 
 -- a scenario that some text says, of which a telling tells the same by any two valid logs
@@ -169,13 +170,13 @@ one_report laws (Demo seed nodes frames) asked bytes a b text other is also =
     one_run laws s said summary (sums_alike laws s said) a b text other is also
 one_report laws Check asked bytes a b text other is also =
     let same : (is.0, is.1) ≡ (also.0, also.1) = one_said (checked_text bytes) (is.0, is.1) (also.0, also.1) is.2 also.2 in (
-      one_check laws is.0 is.1 text other is.3.1
-          (subst (λ (t : ScenarioParts × List Entry). IsCheckReport t.0 t.1 other) (sym same) also.3.1),
-      no_logs laws bytes a b text other is.3.0 also.3.0,
+      one_check laws is.0 is.1 text other is.4
+          (subst (λ (t : ScenarioParts × List Entry). IsCheckReport t.0 t.1 other) (sym same) also.4),
+      no_logs laws bytes a b text other is.3 also.3,
     )
 one_report laws Deadlines asked bytes a b text other is also =
-    let here = subst (λ (p : PlanOfDeadlines). IsDeadlineReport p other) (one_said _ also.0 is.0 also.1 is.1) also.2.1 in
-    (one_plan_report is.0 text other is.2.1 here, no_logs laws bytes a b text other is.2.0 also.2.0)
+    let here = subst (λ (p : PlanOfDeadlines). IsDeadlineReport p other) (one_said _ also.0 is.0 also.1 is.1) also.3 in
+    (one_plan_report is.0 text other is.3 here, no_logs laws bytes a b text other is.2 also.2)
 one_report laws Times asked bytes a b text other is also =
     of_scenario laws bytes a b text other IsTimesReport (λ s said. one_times laws s said a b text other) is also
 one_report laws Return asked bytes a b text other is also =

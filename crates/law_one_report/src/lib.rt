@@ -2,5 +2,7 @@
 #![tactic(auto)]
 
 mod one_report;
+mod plan_report;
 
 pub use one_report::a_command_has_one_report;
+pub use plan_report::a_planners_command_has_one_report;

@@ -20,7 +20,7 @@ use Rattle.bus_terms.specs.Bus.{frames_of, ranks_of, state_at}
 use Rattle.bus_terms.specs.FloodOfText.{ids}
 use Rattle.bus_terms.specs.Fates.{bus_fates, cleared_below, counts_of, deliveries_of, fate_at, fate_by, fate_of, hosted_at, hosted_of, is_host}
 use Rattle.bus_terms.specs.Fates.{is_hosted_by, is_packet, is_sent, of_stream}
-use Rattle.bus_terms.specs.OverLines.{IsOverScenario, over}
+use Rattle.scenario_text.specs.OverLines.{IsOverScenario, over}
 use Rattle.bus_terms.specs.Packets.{bus_sent, put_at, round_sent, sent_in_slot}
 use Rattle.bus_terms.specs.Rounds.{round_plan, slots_of}
 use Rattle.bus_terms.specs.declared.packets.Fate.{Fate}

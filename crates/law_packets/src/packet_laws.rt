@@ -5,7 +5,7 @@ ghost use Rattle.std.specs.List.{sum_by};
 ghost use Rattle.scenario_text.specs.ScenarioParts.{ScenarioParts};
 ghost use Rattle.bus_terms.specs.Bus.{bus_deliveries};
 ghost use Rattle.bus_terms.specs.Fates.{bus_fates, counts_of, deliveries_of, hosted_of};
-ghost use Rattle.bus_terms.specs.OverLines.{IsOverScenario};
+ghost use Rattle.scenario_text.specs.OverLines.{IsOverScenario};
 ghost use Rattle.bus_terms.specs.Packets.{bus_puts, bus_sent};
 ghost use Rattle.law_packets.specs.Sendings.{AreOfSentPackets, AreQueuedOnce, AreSentInOrder, AreSentOnce, WerePut};
 

@@ -2,7 +2,7 @@
 use Rattle.std.proofs.Common.{◌≡◌, ◌<◌, ◌+◌, ◌==◌, ℕ, suc, List, Bool, true, false, Option, Some, None, if◌then◌else◌, is_some, refl, sym, ◌∙◌, ap, arith}
 use Rattle.std.proofs.Common.{AllPairs, add-one}
 use Rattle.bus_terms.proofs.HostsOfRanks.{due_rank}
-use Rattle.law_service.proofs.Words.{false≢true, and_parts, cond-false, ne_eqb, Numbers, Ask, Plan, Schedule, ScenarioParts, IsSoundScenario, sound, Part}
+use Rattle.law_service.proofs.Words.{false≢true, and_parts, cond-false, ne_eqb, Numbers, Ask, Plan, Schedule, ScenarioParts, IsSoundScenario, over_sound, Part}
 use Rattle.law_service.proofs.Words.{Opening, Closing, Hold, Host, Core, is_member, schedule_accepted, opening_accepted, closing_accepted, host_plan, HostPlan}
 use Rattle.law_service.proofs.Words.{last_slot, opening, Message, ScheduleOf, Opened, opened_slot, part_of, hosts_now, host_closes, silent, is_schedule_part}
 use Rattle.law_service.proofs.Words.{State, StateOff, StateOn, Streams, Table, hosts_in, rank_of, planned_rank, member_hosts, state_at, ids, Accepts, Slot}
@@ -108,7 +108,7 @@ closing_hosts s f v c m said = by_test (hosts_now f c) refl said
 pub openings : OpeningsAreAccepted
 unfolding before_slot
 openings s accepted rank f p host hosted lossless k v within =
-    let scenario = sound s accepted in
+    let scenario = over_sound s accepted in
     let is = leads s rank f p host hosted 0 (omega arith) in
     let says = opening_said s rank f p host hosted is in
     let told = goes_by s scenario rank f p host hosted 0 Opening refl is (opening is.core.plan) says (opening_hosts s f) (member_hosts rank f)
@@ -139,7 +139,7 @@ closings s accepted rank f p host hosted lossless k v within = record {
 }
   where
     scenario : IsSoundScenario s
-    scenario = sound s accepted
+    scenario = over_sound s accepted
 
     j : ℕ
     j = last_slot p

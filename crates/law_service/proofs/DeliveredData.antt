@@ -1,6 +1,7 @@
 -- In a data slot without losses the members within reach deliver what the owner sends.
 use Rattle.std.proofs.Common.{◌≡◌, ℕ, ◌<◌, true, Option, Some, None, is_some, option_map, option_and_then, refl, sym, ◌∙◌, ap, AllPairs, eq-eqb}
-use Rattle.law_service.proofs.Words.{false≢true, node_of, stream_of, ScenarioParts, IsSoundScenario, sound, Delivery, Part, DataSlot, Core, Message, Opened}
+use Rattle.law_service.proofs.Words.{false≢true, node_of, stream_of, ScenarioParts, IsSoundScenario, over_sound, Delivery, Part, DataSlot, Core, Message}
+use Rattle.law_service.proofs.Words.{Opened}
 use Rattle.law_service.proofs.Words.{opened_slot, data_of, delivery_of, State, StateOn, WaitingPacket, first_waiting, ids, has, setup_of, Slot, slot_of_round}
 use Rattle.law_service.proofs.Words.{opened_at, message_said, takes_part, accepted_at, closed_slot_of, before_slot, of_filtered, in_whole, ids_rise, TakesPart}
 use Rattle.law_service.proofs.Words.{DataIsDelivered, window_of, owner_alone}
@@ -26,7 +27,7 @@ delivered_within s accepted rank f p states j owner c w has_data lossless k v wi
 )
   where
     scenario : IsSoundScenario s
-    scenario = sound s accepted
+    scenario = over_sound s accepted
 
     before : ℕ → State
     before = before_slot s rank f p states j

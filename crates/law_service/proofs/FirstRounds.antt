@@ -1,6 +1,6 @@
 -- The round after a closing: when it comes, and the slots of those who were taken.
 use Rattle.std.proofs.Common.{◌≡◌, ◌≢◌, ◌<◌, ◌≤◌, ◌+◌, ◌-◌, ◌*◌, ◌/◌, ℕ, false, refl, sym, ◌∙◌, ap, subst, arith, Contains}
-use Rattle.law_service.proofs.Words.{Numbers, Plan, code, code_of, ScenarioParts, sound, Host, Core, count_of, owed_to, plan_round, host_plan, answers_to}
+use Rattle.law_service.proofs.Words.{Numbers, Plan, code, code_of, ScenarioParts, over_sound, Host, Core, count_of, owed_to, plan_round, host_plan, answers_to}
 use Rattle.law_service.proofs.Words.{last_slot, host_closes, StateOn, TableEntry, Table, is_full, new_entry, rank_of, state_at, before_slot, setup_of, table_at}
 use Rattle.law_service.proofs.Words.{PlansRound, FitsNextRound, RoundsFollow, OwedSlotsAreGranted, NewStreamsAreGranted, IsHosted, slot_in, node_before}
 use Rattle.law_service.proofs.Words.{state_after_round, Hosting, leads, has_planned}
@@ -67,7 +67,7 @@ less_none q n is = omega (arith, is)
 
 pub new_granted : NewStreamsAreGranted
 new_granted s accepted rank f p host j u a b reaches room wants c due plan plans fits =
-    let scenario = sound s accepted in
+    let scenario = over_sound s accepted in
     let t = at_closing s scenario rank f p host j u a b reaches in
     let same : t.core ≡ c = same_core t.core c (node_before s rank f p (last_slot p) host) t.on plans.on in
     let kept = ap (λ (d : Core). d.kept) (sym same) ∙ t.kept in

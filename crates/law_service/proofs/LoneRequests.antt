@@ -4,7 +4,8 @@ use Rattle.std.proofs.Common.{subst, arith}
 use Rattle.std.proofs.lemmas.List.{append_assoc}
 use Rattle.std.proofs.lemmas.Option.{same_Some}
 use Rattle.bus_terms.proofs.KeptByHosts.{request_from, own_same, slot_kept}
-use Rattle.law_service.proofs.Words.{cond-true, Ask, Plan, code_of, ScenarioParts, IsSoundScenario, sound, Part, Core, last_slot, Message, ScheduleOf, DataOf}
+use Rattle.law_service.proofs.Words.{cond-true, Ask, Plan, code_of, ScenarioParts, IsSoundScenario, over_sound, Part, Core, last_slot, Message, ScheduleOf}
+use Rattle.law_service.proofs.Words.{DataOf}
 use Rattle.law_service.proofs.Words.{RequestOf, opened_slot, part_of, hosts_now, host_closes, State, StateOn, Table, is_full, answers_to, rank_of, hosts_own}
 use Rattle.law_service.proofs.Words.{state_at, ids, Slot, accepted_at, before_slot, takes_part, setup_of, in_whole, ids_rise, slot_in, ReachesHost}
 use Rattle.law_service.proofs.Words.{Acknowledges, LoneRequestsAreKept, LoneRequestsAreAcknowledged, contention_at, IsRequest, requests, kept_by, own_of}
@@ -159,7 +160,7 @@ module _ (s : ScenarioParts) (scenario : IsSoundScenario s) (rank f : ℕ) (p : 
 
 pub kept : LoneRequestsAreKept
 kept s accepted rank f p host j u a c reaches =
-    let d = kept_here s (sound s accepted) rank f p host j u a c reaches in
+    let d = kept_here s (over_sound s accepted) rank f p host j u a c reaches in
     record {
       core = d.0;
       on = ap (λ (i : ℕ). before_slot s rank f p (state_at s f) i host) (add-one j) ∙ d.1;
@@ -167,4 +168,4 @@ kept s accepted rank f p host j u a c reaches =
     }
 
 pub acknowledged : LoneRequestsAreAcknowledged
-acknowledged s accepted rank f p host j u a c reaches free = acknowledges s (sound s accepted) rank f p host j u a c reaches free
+acknowledged s accepted rank f p host j u a c reaches free = acknowledges s (over_sound s accepted) rank f p host j u a c reaches free

@@ -2,7 +2,8 @@
 -- neighbours of the host alone; nobody accepts either request, and both are tied again.
 use Rattle.std.proofs.Common.{◌≡◌, ◌≢◌, ◌++◌, ◌==◌, ℕ, List, [], ◌∷◌, true, false, None, inl, inr, is_some, codes, refl, sym, ◌∙◌, ap, subst, arith, ◌⊎◌}
 use Rattle.law_service.proofs.Words.{is_utf8, chars, encode, cases_eq, eqb-true, false≢true, ne_eqb, or_cases, Plan, least_passing, contended, network_line}
-use Rattle.law_service.proofs.Words.{IsScenario, scenario_after_words, scenario_line, ScenarioParts, put_line, script_line, step_line, draft_after_line, Core}
+use Rattle.law_service.proofs.Words.{IsScenario, over_own_lines, scenario_after_words, scenario_line, ScenarioParts, put_line, script_line, step_line}
+use Rattle.law_service.proofs.Words.{draft_after_line, Core}
 use Rattle.law_service.proofs.Words.{empty_plan, plan_round, host_plan, StateOn, schedule_heard, before_frame, state_at, has, moment, node_before, slot_in}
 use Rattle.law_service.proofs.Words.{accepted_at, before_slot, message_said, lines_of, AreContenders, AreTied, AreTiedAfter, Collide, HaveSameNeighbours}
 use Rattle.law_service.proofs.Words.{is_linked}
@@ -15,9 +16,9 @@ use Rattle.law_service.proofs.WorkedContenders.{star}
 abbrev s : ScenarioParts
 s = star 4 12 7 23
 
-accepted : IsScenario s
+said : IsScenario s
 unfolding draft_after_line scenario_after_words scenario_line script_line step_line put_line network_line is_utf8 chars encode
-accepted = (
+said = (
   codes "profile 2\ncontend 4\nsends 2\nnode 1 0\nnode 7 0\nnode 23 0\nhost 0 1\npair 1 7\npair 1 23\nframes 12\n"
       ++ codes "on 0 1\non 0 7\non 0 23\nstream 0 7 0 5\nstream 0 23 0 5\nput 0 7 0 aa\nput 0 23 0 bb\n",
   refl,
@@ -83,7 +84,7 @@ collide = record {
 }
 
 neither_accepted : (w : ℕ) → accepted_at (slot_in s 0 5 p 4) w ≡ None
-neither_accepted = lost s accepted 0 5 p 4 7 23 collide
+neither_accepted = lost s (over_own_lines s said) 0 5 p 4 7 23 collide
 
 abbrev first_core : Core
 first_core = core_of (node_before s 0 5 p 4 7)
@@ -100,4 +101,4 @@ unfolding before_frame before_slot moment schedule_heard host_plan plan_round le
 tied = record { ids = refl; tries = refl; backoff = refl }
 
 tied_again : AreTiedAfter s 0 5 p 4 7 23
-tied_again = stay_tied s accepted 0 5 p 4 7 23 collide first_core second_core both_on.0 both_on.1 tied
+tied_again = stay_tied s (over_own_lines s said) 0 5 p 4 7 23 collide first_core second_core both_on.0 both_on.1 tied

@@ -2,6 +2,7 @@
 -- that of frame 5, and sends its packet in the next.
 use Rattle.std.proofs.Common.{◌≡◌, ◌≢◌, ◌<◌, ◌≤◌, ℕ, zero, suc, [], ◌∷◌, true, false, Some, inl, inr, is_some, codes, refl, sym, ◌∙◌, subst, arith}
 use Rattle.law_service.proofs.Words.{is_utf8, chars, encode, cases_eq, false≢true, leb-true, ne_eqb, Ask, least_passing, network_line, IsScenario}
+use Rattle.law_service.proofs.Words.{over_own_lines}
 use Rattle.law_service.proofs.Words.{scenario_after_words, scenario_line, put_line, script_line, step_line, draft_after_line, Core, count_of, plan_round}
 use Rattle.law_service.proofs.Words.{answers_to, host_plan, WaitingPacket, schedule_heard, is_full, before_frame, state_at, walks, Accepts, moment, node_before}
 use Rattle.law_service.proofs.Words.{slot_in, state_after_round, before_slot, delivery_in_slot, message_said, lines_of, HasData, FitsNextRound, PlansRound}
@@ -15,9 +16,9 @@ use Rattle.law_service.proofs.MetPremises.{asks, hosted, lossless, p, request, s
 use Rattle.law_service.proofs.OffNodes.{says_none}
 use Rattle.law_service.proofs.WorkedReach.{received}
 
-accepted : IsScenario s
+said : IsScenario s
 unfolding draft_after_line scenario_after_words scenario_line script_line step_line put_line network_line is_utf8 chars encode
-accepted = (
+said = (
   codes "sends 1\nnode 1 0\nnode 2 0\nnode 3 0\nhost 0 1\npair 1 2\npair 2 3\nframes 12\non 0 1\non 0 2\non 0 3\nstream 0 3 0 4\nput 0 3 0 aa\n",
   refl,
 )
@@ -74,10 +75,10 @@ unfolding before_frame before_slot moment schedule_heard host_plan plan_round le
 has_room = refl
 
 keeps : KeepsRequest s 0 5 p 1 1 ask first_core
-keeps = kept s accepted 0 5 p 1 1 3 ask first_core reaches
+keeps = kept s (over_own_lines s said) 0 5 p 1 1 3 ask first_core reaches
 
 acknowledges : Acknowledges s 0 5 p 1 ask
-acknowledges = acknowledged s accepted 0 5 p 1 1 3 ask first_core reaches has_room
+acknowledges = acknowledged s (over_own_lines s said) 0 5 p 1 1 3 ask first_core reaches has_room
 
 -- the next round comes four frames later, and what is owed by then are four slots: all of them are granted
 plans : PlansRound s 0 5 p 1 last_core 9 next_core.plan
@@ -97,7 +98,8 @@ fits = leb-true _ 40 refl
 four_slots : (4 ≤ count_of 12 next_core.plan.owners) × (count_of 12 next_core.plan.owners ≡ 4)
 unfolding before_frame before_slot moment schedule_heard host_plan plan_round least_passing
 four_slots = (
-  new_granted s accepted 0 5 p 1 1 3 ask first_core reaches has_room (λ same. absurd (omega (arith, same))) last_core 9 next_core.plan plans fits,
+  new_granted s (over_own_lines s said) 0 5 p 1 1 3 ask first_core reaches has_room (λ same. absurd (omega (arith, same))) last_core 9 next_core.plan
+      plans fits,
   refl,
 )
 
@@ -127,4 +129,4 @@ host_listens = record { there = refl; distance = record { reached = refl; neares
 
 delivers : (delivery_in_slot s 0 9 next_core.plan (state_at s 9) 1 1 ≡ Some (received 3 1)) × Accepts (slot_in s 0 9 next_core.plan 1).flood 1 3 1
 unfolding before_frame before_slot moment schedule_heard host_plan plan_round least_passing
-delivers = delivered_within s accepted 0 9 next_core.plan (state_at s 9) 1 12 data_core packet has_data data_lossless 1 1 host_listens
+delivers = delivered_within s (over_own_lines s said) 0 9 next_core.plan (state_at s 9) 1 12 data_core packet has_data data_lossless 1 1 host_listens

@@ -15,12 +15,13 @@ unfoldable pub use Rattle.text_readers.specs.Reading.{draft_after_line}
 unfoldable pub use Rattle.scenario_text.specs.Network.{network_line}
 pub use Rattle.scenario_text.specs.ScenarioFacts.{IsSoundScenario}
 pub use Rattle.scenario_text.specs.ScenarioGrammar.{IsScenario}
+pub use Rattle.scenario_text.specs.OverLines.{IsOverScenario}
 unfoldable pub use Rattle.scenario_text.specs.ScenarioGrammar.{scenario_after_words, scenario_line}
 pub use Rattle.scenario_text.specs.ScenarioParts.{ScenarioParts}
 unfoldable pub use Rattle.scenario_text.specs.ScriptGrammar.{put_line, script_line, step_line}
 pub use Rattle.scenario_text.specs.Setups.{setup_of}
 pub use Rattle.scenario_text.specs.declared.script.ScriptLine.{ScriptLine}
-pub use Rattle.scenario_text.proofs.SoundScenarios.{sound}
+pub use Rattle.scenario_text.proofs.SoundOver.{over_own_lines, over_sound}
 pub use Rattle.bus_rules.specs.Cores.{Core, booted, closing_accepted, empty_plan, frame_ended, is_member, opening_accepted, schedule_accepted}
 pub use Rattle.bus_rules.specs.Granting.{Grants, count_of, gap_of, given, granted_by, grants_for, last_code, owed_to, owners_by, share_in, total}
 unfoldable pub use Rattle.bus_rules.specs.Granting.{plan_round, turns}

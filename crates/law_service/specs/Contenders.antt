@@ -3,7 +3,7 @@ use Rattle.std.specs.Prelude.{◌≡◌, ◌≢◌, ◌<◌, ◌+◌, ◌%◌, �
 use Rattle.std.specs.List.{list_any}
 use Rattle.lwb_base.specs.Messages.{Plan, Schedule}
 use Rattle.scenario_text.specs.ScenarioParts.{ScenarioParts}
-use Rattle.scenario_text.specs.ScenarioGrammar.{IsScenario}
+use Rattle.scenario_text.specs.OverLines.{IsOverScenario}
 use Rattle.bus_rules.specs.Cores.{Core}
 use Rattle.bus_rules.specs.Plans.{last_slot}
 use Rattle.bus_rules.specs.States.{StateOn}
@@ -78,7 +78,7 @@ pub record Collide (s : ScenarioParts) (rank f : ℕ) (p : Plan) (j u v : ℕ) :
 -- nobody accepts either request
 abbrev pub ContendersAreLost : Type 0
 ContendersAreLost =
-    (s : ScenarioParts) → IsScenario s → (rank f : ℕ) (p : Plan) (j u v : ℕ) → Collide s rank f p j u v
+    (s : ScenarioParts) → IsOverScenario s → (rank f : ℕ) (p : Plan) (j u v : ℕ) → Collide s rank f p j u v
     → (w : ℕ) → accepted_at (slot_in s rank f p j) w ≡ None
 
 -- the two after the slot, tied again
@@ -92,6 +92,6 @@ pub record AreTiedAfter (s : ScenarioParts) (rank f : ℕ) (p : Plan) (j u v : �
 -- and if they were tied, they are tied again
 abbrev pub ContendersStayTied : Type 0
 ContendersStayTied =
-    (s : ScenarioParts) → IsScenario s → (rank f : ℕ) (p : Plan) (j u v : ℕ) → Collide s rank f p j u v
+    (s : ScenarioParts) → IsOverScenario s → (rank f : ℕ) (p : Plan) (j u v : ℕ) → Collide s rank f p j u v
     → (c d : Core) → node_before s rank f p j u ≡ StateOn c → node_before s rank f p j v ≡ StateOn d → AreTied u v c.streams d.streams
     → AreTiedAfter s rank f p j u v

@@ -2,7 +2,7 @@
 use Rattle.std.specs.Prelude.{◌≡◌, ℕ, suc, Some}
 use Rattle.lwb_base.specs.Messages.{Plan, node_of, stream_of}
 use Rattle.scenario_text.specs.ScenarioParts.{ScenarioParts}
-use Rattle.scenario_text.specs.ScenarioGrammar.{IsScenario}
+use Rattle.scenario_text.specs.OverLines.{IsOverScenario}
 use Rattle.bus_rules.specs.declared.delivery.Delivery.{Delivery}
 use Rattle.bus_rules.specs.declared.part.Part.TheVariants.{Data as DataSlot}
 use Rattle.bus_rules.specs.Cores.{Core}
@@ -37,7 +37,7 @@ delivery rank f j owner c w v = record {
 -- each other member within reach delivers it, in the step before the number of its hops
 abbrev pub DataIsDelivered : Type 0
 DataIsDelivered =
-    (s : ScenarioParts) → IsScenario s → (rank f : ℕ) (p : Plan) (states : ℕ → State) (j owner : ℕ) (c : Core) (w : WaitingPacket)
+    (s : ScenarioParts) → IsOverScenario s → (rank f : ℕ) (p : Plan) (states : ℕ → State) (j owner : ℕ) (c : Core) (w : WaitingPacket)
     → HasData s rank f p states j owner c w → LosesNothing s (slot_at s rank f p states j)
     → (k v : ℕ) → IsWithin s (slot_at s rank f p states j) (node_of owner) (suc k) v
     → (delivery_in_slot s rank f p states j v ≡ Some (delivery rank f j owner c w v)) × Accepts (slot_at s rank f p states j).flood v (node_of owner) k

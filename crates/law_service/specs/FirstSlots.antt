@@ -3,7 +3,7 @@ use Rattle.std.specs.Prelude.{◌≡◌, ◌≢◌, ◌<◌, ◌≤◌, ◌+◌,
 use Rattle.lwb_base.specs.Messages.{Ask, Plan, code_of}
 use Rattle.lwb_base.specs.declared.limits.TheConstants.{DATA_SLOTS, GREATEST_GAP}
 use Rattle.scenario_text.specs.ScenarioParts.{ScenarioParts}
-use Rattle.scenario_text.specs.ScenarioGrammar.{IsScenario}
+use Rattle.scenario_text.specs.OverLines.{IsOverScenario}
 use Rattle.bus_rules.specs.declared.tune.Tune.TheVariants.{Host}
 use Rattle.bus_rules.specs.Cores.{Core}
 use Rattle.bus_rules.specs.Granting.{count_of, owed_to, total}
@@ -34,20 +34,20 @@ FitsNextRound s f host c due = total s.profile.seconds due (table_at f host c).e
 -- the next round comes one frame to the greatest gap later
 abbrev pub RoundsFollow : Type 0
 RoundsFollow =
-    (s : ScenarioParts) → IsScenario s → (rank f : ℕ) (p : Plan) (host : ℕ) → IsHosted s rank f p host
+    (s : ScenarioParts) → IsOverScenario s → (rank f : ℕ) (p : Plan) (host : ℕ) → IsHosted s rank f p host
     → (c : Core) (due : ℕ) (plan : Plan) → PlansRound s rank f p host c due plan → (f < due) × (due ≤ f + GREATEST_GAP)
 
 -- and where all fits, each stream of the table has the slots that are owed to it by then
 abbrev pub OwedSlotsAreGranted : Type 0
 OwedSlotsAreGranted =
-    (s : ScenarioParts) → IsScenario s → (rank f : ℕ) (p : Plan) (host : ℕ) → IsHosted s rank f p host
+    (s : ScenarioParts) → IsOverScenario s → (rank f : ℕ) (p : Plan) (host : ℕ) → IsHosted s rank f p host
     → (c : Core) (due : ℕ) (plan : Plan) → PlansRound s rank f p host c due plan → FitsNextRound s f host c due
     → (e : TableEntry) → Contains (table_at f host c).entries e → owed_to s.profile.seconds due e ≤ count_of e.code plan.owners
 
 -- so a stream whose lone request of frame f was taken has by then what has come due since f
 abbrev pub NewStreamsAreGranted : Type 0
 NewStreamsAreGranted =
-    (s : ScenarioParts) → IsScenario s → (rank f : ℕ) (p : Plan) (host j u : ℕ) (a : Ask) (b : Core) → ReachesHost s rank f p host j u a b
+    (s : ScenarioParts) → IsOverScenario s → (rank f : ℕ) (p : Plan) (host j u : ℕ) (a : Ask) (b : Core) → ReachesHost s rank f p host j u a b
     → is_full a (answers_to f b.kept b.table).table ≡ false → a.interval ≢ 0
     → (c : Core) (due : ℕ) (plan : Plan) → PlansRound s rank f p host c due plan → FitsNextRound s f host c due
     → s.profile.seconds * (due - f) / a.interval ≤ count_of (code_of a) plan.owners

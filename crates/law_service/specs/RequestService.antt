@@ -2,7 +2,7 @@
 use Rattle.std.specs.Prelude.{◌≡◌, ◌<◌, ◌+◌, ℕ, suc, true, false, is_some, Some, [], ◌∷◌, ◌++◌, length, Contains}
 use Rattle.lwb_base.specs.Messages.{Ask, Plan}
 use Rattle.scenario_text.specs.ScenarioParts.{ScenarioParts}
-use Rattle.scenario_text.specs.ScenarioGrammar.{IsScenario}
+use Rattle.scenario_text.specs.OverLines.{IsOverScenario}
 use Rattle.bus_rules.specs.Cores.{Core}
 use Rattle.bus_rules.specs.HostPlans.{answers_to}
 use Rattle.bus_rules.specs.Plans.{last_slot}
@@ -45,11 +45,11 @@ pub record Acknowledges (s : ScenarioParts) (rank f : ℕ) (p : Plan) (host : �
 
 abbrev pub LoneRequestsAreKept : Type 0
 LoneRequestsAreKept =
-    (s : ScenarioParts) → IsScenario s → (rank f : ℕ) (p : Plan) (host j u : ℕ) (a : Ask) (c : Core) → ReachesHost s rank f p host j u a c
+    (s : ScenarioParts) → IsOverScenario s → (rank f : ℕ) (p : Plan) (host j u : ℕ) (a : Ask) (c : Core) → ReachesHost s rank f p host j u a c
     → KeepsRequest s rank f p host j a c
 
 -- unless the table is full when the request's turn comes: after those that the host had kept before
 abbrev pub LoneRequestsAreAcknowledged : Type 0
 LoneRequestsAreAcknowledged =
-    (s : ScenarioParts) → IsScenario s → (rank f : ℕ) (p : Plan) (host j u : ℕ) (a : Ask) (c : Core) → ReachesHost s rank f p host j u a c
+    (s : ScenarioParts) → IsOverScenario s → (rank f : ℕ) (p : Plan) (host j u : ℕ) (a : Ask) (c : Core) → ReachesHost s rank f p host j u a c
     → is_full a (answers_to f c.kept c.table).table ≡ false → Acknowledges s rank f p host a

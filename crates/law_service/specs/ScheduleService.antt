@@ -2,7 +2,7 @@
 use Rattle.std.specs.Prelude.{◌≡◌, ◌<◌, ℕ, suc, true}
 use Rattle.lwb_base.specs.Messages.{Plan}
 use Rattle.scenario_text.specs.ScenarioParts.{ScenarioParts}
-use Rattle.scenario_text.specs.ScenarioGrammar.{IsScenario}
+use Rattle.scenario_text.specs.OverLines.{IsOverScenario}
 use Rattle.bus_rules.specs.declared.tune.Tune.TheVariants.{Hold, Host}
 use Rattle.bus_rules.specs.Cores.{Core, is_fresh}
 use Rattle.bus_rules.specs.Plans.{last_slot}
@@ -37,13 +37,13 @@ pub record AcceptsClosing (s : ScenarioParts) (rank f : ℕ) (p : Plan) (host k 
 -- of its hops
 abbrev pub OpeningsAreAccepted : Type 0
 OpeningsAreAccepted =
-    (s : ScenarioParts) → IsScenario s → (rank f : ℕ) (p : Plan) (host : ℕ) → IsHosted s rank f p host
+    (s : ScenarioParts) → IsOverScenario s → (rank f : ℕ) (p : Plan) (host : ℕ) → IsHosted s rank f p host
     → LosesNothing s (slot_in s rank f p 0) → (k v : ℕ) → IsWithin s (slot_in s rank f p 0) host (suc k) v
     → AcceptsOpening s rank f p host k v
 
 -- and so in a closing slot
 abbrev pub ClosingsAreAccepted : Type 0
 ClosingsAreAccepted =
-    (s : ScenarioParts) → IsScenario s → (rank f : ℕ) (p : Plan) (host : ℕ) → IsHosted s rank f p host
+    (s : ScenarioParts) → IsOverScenario s → (rank f : ℕ) (p : Plan) (host : ℕ) → IsHosted s rank f p host
     → LosesNothing s (slot_in s rank f p (last_slot p)) → (k v : ℕ) → IsWithin s (slot_in s rank f p (last_slot p)) host (suc k) v
     → AcceptsClosing s rank f p host k v

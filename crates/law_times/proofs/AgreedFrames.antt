@@ -1,7 +1,8 @@
 -- A packet of an agreed stream: frame by frame it is delivered, or the host keeps the stream, and its node does not give it up.
 use Rattle.std.proofs.Common.{◌≡◌, ◌≢◌, ◌<◌, ◌≤◌, ◌+◌, ◌-◌, ◌*◌, ◌/◌, ℕ, zero, suc, List, true, false, inl, inr, Some, refl, sym, ◌∙◌, ap, subst, arith, ◌⊎◌}
 use Rattle.std.proofs.Common.{Contains}
-use Rattle.law_times.proofs.Words.{div-mul-le_self, mul-le-mul_left, mul-le-mul_right, cases_eq, Ask, Plan, code_of, IsScenario, ScenarioParts, sound, Hold}
+use Rattle.law_times.proofs.Words.{div-mul-le_self, mul-le-mul_left, mul-le-mul_right, cases_eq, Ask, Plan, code_of, IsOverScenario, ScenarioParts, over_sound}
+use Rattle.law_times.proofs.Words.{Hold}
 use Rattle.law_times.proofs.Words.{Host, Core, own_rank, count_of, HostPlan, last_slot, RequestOf, host_closes, State, StateOn, is_host, rank_of, state_at, has}
 use Rattle.law_times.proofs.Words.{IsHosted, slot_in, before_slot, message_said, rank_in, rounds, setup_of, Hosting, kept_of, IsWithin, LosesNothing, TakesPart}
 use Rattle.law_times.proofs.Words.{lose_nothing, closings, openings, HasSlowStreams, AwaitsSlot, IsDelivered, StreamPacket, resets, IsReached, has_line}
@@ -29,7 +30,7 @@ use Rattle.law_times.proofs.SentPackets.{takes}
 use Rattle.law_times.proofs.Settings.{Setting, core_at, core_tune, idle, setting}
 use Rattle.law_times.proofs.TuneSteps.{goes_idle}
 
-module _ (s : ScenarioParts) (accepted : IsScenario s) (slow : HasSlowStreams s) (rank host f e : ℕ) (among : List ℕ) (w : StreamPacket) (ahead : ℕ)
+module _ (s : ScenarioParts) (accepted : IsOverScenario s) (slow : HasSlowStreams s) (rank host f e : ℕ) (among : List ℕ) (w : StreamPacket) (ahead : ℕ)
     (awaits : AwaitsSlot s rank host f e among w ahead) (guest : w.node ≢ host) (reach : IsReached s among w.node host)
     (keeps : has_line (resets w.stream) s f e w.node ≡ false) (interval since host_boot : ℕ) (positive : 0 < interval) (early : since < f) where
   abbrev sec : ℕ
@@ -229,7 +230,7 @@ module _ (s : ScenarioParts) (accepted : IsScenario s) (slow : HasSlowStreams s)
       good_next low good =
           next_good w.node w.stream interval awaits.stream positive low s f e x gone.core gone.tune.0 gone.tune.1
           (awaits.group.stay w.node awaits.there) keeps after within
-          (rounds_are s (sound s accepted) w.node rank x p (ap rank_in node.1 ∙ ap rank_of node.2) at.plan ∙ gone.on) gone.tune.2 good
+          (rounds_are s (over_sound s accepted) w.node rank x p (ap rank_in node.1 ∙ ap rank_of node.2) at.plan ∙ gone.on) gone.tune.2 good
 
       hold_on : (low : ℕ) → low ≤ suc x → GoodNode low (state_at s (suc x) w.node)
           → sec * (n.due - since) / interval * interval + sec * since ≤ sec * (low + 4) → Holding (suc x)

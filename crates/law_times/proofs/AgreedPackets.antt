@@ -1,6 +1,6 @@
 -- One of the first packets of an agreed stream that wait is delivered within its bound: the host keeps the stream until the end, if it is not before.
 use Rattle.std.proofs.Common.{◌≡◌, ◌<◌, ◌≤◌, ◌+◌, ◌-◌, ◌*◌, ◌/◌, ℕ, List, inl, inr, min, refl, sym, ◌∙◌, ap, subst, arith}
-use Rattle.law_times.proofs.Words.{div-mul-le_self, mul-le-mul_left, cases_lt, code, IsScenario, ScenarioParts, Host, Core, State, StateOn, stream_at}
+use Rattle.law_times.proofs.Words.{div-mul-le_self, mul-le-mul_left, cases_lt, code, IsOverScenario, ScenarioParts, Host, Core, State, StateOn, stream_at}
 use Rattle.law_times.proofs.Words.{TableEntry, state_at, HasEntry, HasSlowStreams, IsOnPace, latency_bound, AgreedPacketsComeWithin, AwaitsSlot, IsDelivered}
 use Rattle.law_times.proofs.Words.{IsServed, StreamPacket}
 use Rattle.law_times.proofs.AgreedFrames.{Holding, all_steps}
@@ -15,7 +15,7 @@ use Rattle.law_times.proofs.LatentSlots.{keep_pace, spread}
 use Rattle.law_times.proofs.QueuedPackets.{waits_queued}
 use Rattle.law_times.proofs.QueuedRounds.{code_of_packet}
 
-module _ (queue interval seconds : ℕ) (s : ScenarioParts) (accepted : IsScenario s) (slow : HasSlowStreams s) (same : s.profile.seconds ≡ seconds)
+module _ (queue interval seconds : ℕ) (s : ScenarioParts) (accepted : IsOverScenario s) (slow : HasSlowStreams s) (same : s.profile.seconds ≡ seconds)
     (rank host f : ℕ) (among : List ℕ) (w : StreamPacket) (ahead : ℕ)
     (awaits : AwaitsSlot s rank host f (f + latency_bound queue interval seconds) among w ahead) (less : ahead < queue) (due : ℕ) (e : TableEntry)
     (has_entry : HasEntry s host f due e) (of_packet : e.code ≡ code w.node w.stream) (long : e.interval ≡ interval) (early : e.accepted < f)

@@ -1,6 +1,7 @@
 -- Of two hosts that of rank 0 is gone: the round that falls out, a search for rank 0, one for rank 1, and the first round of the other.
 use Rattle.std.proofs.Common.{◌≡◌, ◌<◌, ◌≤◌, ◌+◌, ◌-◌, ◌%◌, ℕ, zero, suc, List, Bool, true, false, Some, inl, inr, length, refl, sym, ◌∙◌, ap, subst, arith}
-use Rattle.law_times.proofs.Words.{cases_eq, false≢true, Plan, IsScenario, ScenarioParts, IsSoundScenario, sound, Tune, Scan, Hold, Host, own_rank, state_at}
+use Rattle.law_times.proofs.Words.{cases_eq, false≢true, Plan, IsOverScenario, ScenarioParts, IsSoundScenario, over_sound, Tune, Scan, Hold, Host, own_rank}
+use Rattle.law_times.proofs.Words.{state_at}
 use Rattle.law_times.proofs.Words.{has, one_of_rank, LosesHost, BackupsTakeOver, NodesFollow, IsLossless, is_on_in, AreMembers}
 use Rattle.law_times.proofs.BootedNodes.{off_throughout}
 use Rattle.law_times.proofs.FramesLeft.{hosts_on, goes_range}
@@ -11,9 +12,9 @@ use Rattle.law_times.proofs.ReachedNodes.{in_round}
 use Rattle.law_times.proofs.Settings.{setting_tune, tune_of}
 use Rattle.law_times.proofs.TuneSteps.{goes_idle, goes_tuned, tune_goes, hold_falls, holds_on, quiet_step, scan_serves, scan_turns, scanning}
 
-module _ (s : ScenarioParts) (accepted : IsScenario s) (first second b d e : ℕ) (among : List ℕ) (loses : LosesHost s first second b d e among) where
+module _ (s : ScenarioParts) (accepted : IsOverScenario s) (first second b d e : ℕ) (among : List ℕ) (loses : LosesHost s first second b d e among) where
   abbrev scenario : IsSoundScenario s
-  scenario = sound s accepted
+  scenario = over_sound s accepted
 
   off : (f : ℕ) → b ≤ f → f ≤ e → is_on_in s f first ≡ false
   off f after within =

@@ -1,7 +1,8 @@
 -- Two members that request in contention slots: in each round both go a turn on, until one of them requests alone or is acknowledged.
 use Rattle.std.proofs.Common.{◌≡◌, ◌≢◌, ◌<◌, ◌≤◌, ◌+◌, ◌-◌, ◌*◌, ℕ, zero, suc, List, Bool, true, false, inl, inr, Some, None, if◌then◌else◌, length, refl, sym}
 use Rattle.std.proofs.Common.{◌∙◌, ap, subst, arith, is_some, ◌⊎◌}
-use Rattle.law_times.proofs.Words.{cases_eq, false≢true, Plan, IsScenario, ScenarioParts, IsSoundScenario, sound, Host, Core, last_slot, StateOn, is_host}
+use Rattle.law_times.proofs.Words.{cases_eq, false≢true, Plan, IsOverScenario, ScenarioParts, IsSoundScenario, over_sound, Host, Core, last_slot, StateOn}
+use Rattle.law_times.proofs.Words.{is_host}
 use Rattle.law_times.proofs.Words.{state_at, has, IsHosted, slot_in, message_said, rounds, AreTwo, Asks, IsAnswered, IsHeardAlone, IsNamed, PartOnTheBus}
 use Rattle.law_times.proofs.Words.{PassesOver, own_number, PartWithin}
 use Rattle.law_times.proofs.BackoffRanges.{Ruled, ruled}
@@ -16,10 +17,10 @@ use Rattle.law_times.proofs.PlannedRounds.{next_plan, planned_of_rank, planned_o
 use Rattle.law_times.proofs.Settings.{core_at, idle}
 use Rattle.law_times.proofs.SilentHosts.{host_silent}
 
-module _ (s : ScenarioParts) (accepted : IsScenario s) (rank host f e : ℕ) (among : List ℕ) (u v slots : ℕ)
+module _ (s : ScenarioParts) (accepted : IsOverScenario s) (rank host f e : ℕ) (among : List ℕ) (u v slots : ℕ)
     (two : AreTwo s rank host f e among u v slots) where
   abbrev scenario : IsSoundScenario s
-  scenario = sound s accepted
+  scenario = over_sound s accepted
 
   abbrev M : ℕ → Type 0
   M x = Members s rank x host among

@@ -1,7 +1,7 @@
 -- A member that asks in contention slots, from frame to frame, as long as nothing is lost and the host's plans pass it over.
 use Rattle.std.proofs.Common.{◌≡◌, ◌≢◌, ◌<◌, ◌≤◌, ◌+◌, ◌==◌, ℕ, suc, List, true, false, inl, inr, Option, Some, length, refl, sym, ◌∙◌, ap, subst, arith}
 use Rattle.std.proofs.Common.{is_some, ◌⊎◌}
-use Rattle.law_times.proofs.Words.{list_any, cases_Bool, Plan, node_of, IsScenario, ScenarioParts, IsSoundScenario, sound, Hold, Host, Core, last_slot}
+use Rattle.law_times.proofs.Words.{list_any, cases_Bool, Plan, node_of, IsOverScenario, ScenarioParts, IsSoundScenario, over_sound, Hold, Host, Core, last_slot}
 use Rattle.law_times.proofs.Words.{slots_named, Message, host_closes, State, StateOff, StateOn, names, is_scan, rank_of, state_at, has, IsHosted, slot_in}
 use Rattle.law_times.proofs.Words.{state_after_round, message_said, rank_in, setup_of, has_planned, leads, IsRightfulState, rightful, IsWithin, LosesNothing}
 use Rattle.law_times.proofs.Words.{TakesPart, closings, openings, lose_nothing, IsHeardAlone, IsNamed, PassesOver, changes_wish, own_number, IsGroup}
@@ -20,10 +20,10 @@ use Rattle.law_times.proofs.ReachedNodes.{reached_in}
 use Rattle.law_times.proofs.SentPackets.{takes}
 use Rattle.law_times.proofs.Settings.{Setting, core_at, core_tune, idle, setting}
 
-module _ (s : ScenarioParts) (accepted : IsScenario s) (rank host f e : ℕ) (among : List ℕ) (slots host_boot : ℕ)
+module _ (s : ScenarioParts) (accepted : IsOverScenario s) (rank host f e : ℕ) (among : List ℕ) (slots host_boot : ℕ)
     (group : IsGroup s host f e among) (lossless : (g : ℕ) → f ≤ g → g ≤ e → IsLossless s g) (contends : slots_named s.profile.contend ≡ slots) where
   abbrev scenario : IsSoundScenario s
-  scenario = sound s accepted
+  scenario = over_sound s accepted
 
   abbrev pub M : ℕ → Type 0
   M x = Members s rank x host among

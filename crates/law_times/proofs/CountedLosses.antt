@@ -1,7 +1,8 @@
 -- Over frames with and without losses members wait for each next round, and scan for four frames at most after a round with losses.
 use Rattle.std.proofs.Common.{◌≡◌, ◌≢◌, ◌<◌, ◌≤◌, ◌+◌, ◌-◌, ◌*◌, ◌==◌, ◌&&◌, ℕ, zero, suc, List, Bool, true, false, Some, inl, inr, if◌then◌else◌, not, refl}
 use Rattle.std.proofs.Common.{sym, ◌∙◌, ap, arith, ◌⊎◌}
-use Rattle.law_times.proofs.Words.{list_any, and_parts, cases_eq, cond-true, cond-false, cond_both, false≢true, Plan, IsScenario, ScenarioParts, Hold, State}
+use Rattle.law_times.proofs.Words.{list_any, and_parts, cases_eq, cond-true, cond-false, cond_both, false≢true, Plan, IsOverScenario, ScenarioParts, Hold}
+use Rattle.law_times.proofs.Words.{State}
 use Rattle.law_times.proofs.Words.{StateOff, StateOn, is_scan, state_at, has, is_on_and, CostsFew, LossesCostFew, has_round, is_lossless, lossy_rounds}
 use Rattle.law_times.proofs.Words.{lossy_row, scanned, IsLossless, IsGroup, not-true}
 use Rattle.law_times.proofs.KeptMembers.{Members, not_due, of_members, to_members, Waiting, Waits, waiting_due, waiting_joins, members_wait, waiting_quiet}
@@ -75,7 +76,7 @@ record Tracked (s : ScenarioParts) (rank host f : ℕ) (among : List ℕ) (n : �
   some : 0 < lossy_row s rank host f n → (v : ℕ) → has among v ≡ true → v ≢ host
       → scanned s v f n + (waiting.due - (n + f)) + 1 ≤ 4 * lossy_rounds s rank host f n
 
-module _ (s : ScenarioParts) (accepted : IsScenario s) (rank host f e : ℕ) (among : List ℕ) (group : IsGroup s host f e among) where
+module _ (s : ScenarioParts) (accepted : IsOverScenario s) (rank host f e : ℕ) (among : List ℕ) (group : IsGroup s host f e among) where
   abbrev row : ℕ → ℕ
   row n = lossy_row s rank host f n
 

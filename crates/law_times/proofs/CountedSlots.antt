@@ -1,6 +1,6 @@
 -- What a stream has been granted before a frame: what had come due by then, and the slots of the next round.
 use Rattle.std.proofs.Common.{◌≡◌, ◌<◌, ◌≤◌, ◌+◌, ◌-◌, ◌*◌, ◌/◌, ℕ, zero, suc, List, true, inl, inr, sym, ◌∙◌, ap, subst, arith, Contains}
-use Rattle.law_times.proofs.Words.{mul-le-mul_left, cases_eq, Plan, IsScenario, ScenarioParts, IsSoundScenario, sound, Core, count_of, StateOn}
+use Rattle.law_times.proofs.Words.{mul-le-mul_left, cases_eq, Plan, IsOverScenario, ScenarioParts, IsSoundScenario, over_sound, Core, count_of, StateOn}
 use Rattle.law_times.proofs.Words.{TableEntry, hosts, state_at, HasSlowStreams, IsOnPace}
 use Rattle.law_times.proofs.GrownTables.{IsGrown, NewOr}
 use Rattle.law_times.proofs.HostFrames.{HostBefore, host_before, none_at_first}
@@ -12,9 +12,9 @@ pub record IsCounted (seconds f : ℕ) (owners : List ℕ) (e : TableEntry) : Ty
   pub accepted : e.accepted < f
   pub few : e.granted ≤ count_of e.code owners + seconds * (f - 1 - e.accepted) / e.interval
 
-module _ (s : ScenarioParts) (accepted : IsScenario s) (slow : HasSlowStreams s) where
+module _ (s : ScenarioParts) (accepted : IsOverScenario s) (slow : HasSlowStreams s) where
   abbrev scenario : IsSoundScenario s
-  scenario = sound s accepted
+  scenario = over_sound s accepted
 
   pub some : 0 < s.profile.seconds
   some = some_seconds s.profile scenario.profile

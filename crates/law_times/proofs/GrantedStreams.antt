@@ -3,7 +3,7 @@
 use Rattle.std.proofs.Common.{◌≡◌, ◌<◌, ◌≤◌, ◌+◌, ◌-◌, ◌*◌, ◌/◌, ◌==◌, ℕ, suc, List, [], ◌∷◌, Bool, true, false, inl, inr, cond, fold, if◌then◌else◌, nat_lt}
 use Rattle.std.proofs.Common.{refl, sym, ◌∙◌, ap, subst, arith, ◌⊎◌, Contains}
 use Rattle.law_times.proofs.Words.{lt-mul-div-succ, mul-le-mul_left, mul-le-mul_right, mul-suc, cases_lt, eqb-true, sum_by-cons, contains_cases, contains_head}
-use Rattle.law_times.proofs.Words.{contains_tail, not_in_none, one_of, Ask, code_of, Numbers, IsScenario, ScenarioParts, sound, Host, Core, count_of}
+use Rattle.law_times.proofs.Words.{contains_tail, not_in_none, one_of, Ask, code_of, Numbers, IsOverScenario, ScenarioParts, over_sound, Host, Core, count_of}
 use Rattle.law_times.proofs.Words.{Answered, answer, host_plan, with_ack, StateOn, Streams, Table, is_full, hosts, state_at, HasSlowStreams}
 use Rattle.law_times.proofs.CountedSlots.{some}
 use Rattle.law_times.proofs.GrownTables.{IsGrown, NewOr}
@@ -78,7 +78,7 @@ named_soon sec interval since low x some positive after lately = elim (cases_lt 
 ]
 
 -- an entry of a host's table after the round of frame x, accepted before it
-module _ (s : ScenarioParts) (accepted : IsScenario s) (slow : HasSlowStreams s) (x host rank : ℕ) (now : Core) (now_on : state_at s x host ≡ StateOn now)
+module _ (s : ScenarioParts) (accepted : IsOverScenario s) (slow : HasSlowStreams s) (x host rank : ℕ) (now : Core) (now_on : state_at s x host ≡ StateOn now)
     (now_tune : now.tune ≡ Host rank x) (due : ℕ) (next : Core) (next_on : state_at s (suc x) host ≡ StateOn next) (next_tune : next.tune ≡ Host rank due)
     (c interval since : ℕ) (stream : HasStream c interval since next.table.entries) (early : since < x) where
   abbrev sec : ℕ
@@ -90,7 +90,7 @@ module _ (s : ScenarioParts) (accepted : IsScenario s) (slow : HasSlowStreams s)
       ∙ ap (λ (a : ℕ). sec * (due - a) / stream.entry.interval) stream.accepted_is ∙ ap (λ (i : ℕ). sec * (due - since) / i) stream.interval_is
 
   before : HostBefore s x host next
-  before = host_before s (sound s accepted) slow (some s accepted slow) x host next next_on (ap hosts next_tune) stream.entry stream.there
+  before = host_before s (over_sound s accepted) slow (some s accepted slow) x host next next_on (ap hosts next_tune) stream.entry stream.there
 
   before_due : before.due ≡ x
   before_due =

@@ -1,7 +1,7 @@
 -- After a round in which nothing is lost each node that takes part within reach of the host holds its next round.
 use Rattle.std.proofs.Common.{◌≡◌, ◌==◌, ◌&&◌, ◌||◌, ℕ, suc, List, Bool, true, false, Option, Some, None, nat_lt, refl, sym, ◌∙◌, ap}
 use Rattle.law_service.specs.ScheduleService.{AcceptsClosing}
-use Rattle.law_times.proofs.Words.{eqb-true, and_parts, cond-true, lt-ltb, Plan, LoseLine, IsScenario, ScenarioParts, IsSoundScenario, sound, Tune}
+use Rattle.law_times.proofs.Words.{eqb-true, and_parts, cond-true, lt-ltb, Plan, LoseLine, IsOverScenario, ScenarioParts, IsSoundScenario, over_sound, Tune}
 use Rattle.law_times.proofs.Words.{Scan, Hold, Host, last_slot, State, StateOff, StateOn, rank_of, before_frame, state_at, has, IsHosted, slot_in, rank_in}
 use Rattle.law_times.proofs.Words.{rounds, setup_of, HasNoLines, LosesNothing, closings, lose_nothing, none_harder, IsLossless, IsReached}
 use Rattle.law_times.proofs.HostedFrames.{Planned, due_round, is_hosted, rounds_are, rank_hosted}
@@ -51,9 +51,9 @@ same_round rank d e a b p q is = (host_due (ap tune_or is), ap plan_or is)
     host_due : Host rank d ≡ Host rank e → d ≡ e
     host_due same = cc
 
-module _ (s : ScenarioParts) (accepted : IsScenario s) (rank f host : ℕ) (due : hosts_round rank f (state_at s f host) ≡ true) where
+module _ (s : ScenarioParts) (accepted : IsOverScenario s) (rank f host : ℕ) (due : hosts_round rank f (state_at s f host) ≡ true) where
   abbrev scenario : IsSoundScenario s
-  scenario = sound s accepted
+  scenario = over_sound s accepted
 
   -- the next round of the host
   pub next : Planned (rounds s f (state_at s f) host) rank f

@@ -2,7 +2,8 @@
 -- nobody hosts the rank.
 use Rattle.std.proofs.Common.{◌≡◌, ◌≢◌, ◌<◌, ◌≤◌, ◌+◌, ◌-◌, ◌==◌, ◌&&◌, ℕ, zero, suc, List, Bool, true, false, Some, inl, inr, length, refl, ◌∙◌, ap, subst}
 use Rattle.std.proofs.Common.{arith, ◌⊎◌}
-use Rattle.law_times.proofs.Words.{cases_eq, eq-eqb, ne_eqb, Plan, IsScenario, ScenarioParts, IsSoundScenario, sound, Tune, Hold, Host, own_rank, State}
+use Rattle.law_times.proofs.Words.{cases_eq, eq-eqb, ne_eqb, Plan, IsOverScenario, ScenarioParts, IsSoundScenario, over_sound, Tune, Hold, Host, own_rank}
+use Rattle.law_times.proofs.Words.{State}
 use Rattle.law_times.proofs.Words.{StateOff, StateOn, is_hosting, hosts_in, rank_of, state_at, has, rounds, setup_of, IsRightfulState, rightful, IsLossless}
 use Rattle.law_times.proofs.Words.{IsGroup, AreMembers, MembersStay, Core, Scan, one_of_rank}
 use Rattle.law_times.proofs.HostedFrames.{Planned}
@@ -77,9 +78,9 @@ host_core s rank f host among m =
     let d = core_at (state_at s f host) (idle (Host rank m.due) m.plan) m.hosts in
     (d.0, d.1, ap (λ (k : Setting). k.tune) d.2, ap (λ (k : Setting). k.plan) d.2)
 
-module _ (s : ScenarioParts) (accepted : IsScenario s) (rank host b e : ℕ) (among : List ℕ) (group : IsGroup s host b e among) where
+module _ (s : ScenarioParts) (accepted : IsOverScenario s) (rank host b e : ℕ) (among : List ℕ) (group : IsGroup s host b e among) where
   abbrev scenario : IsSoundScenario s
-  scenario = sound s accepted
+  scenario = over_sound s accepted
 
   -- after a round in which nothing is lost, of nodes that all take part in it
   pub round_joins : (f : ℕ) → b ≤ f → suc f ≤ e → IsLossless s f → hosts_round rank f (state_at s f host) ≡ true

@@ -1,7 +1,8 @@
 -- As long as nothing is lost and a packet waits, a host keeps the stream of a member in its table: each data slot of the stream carries a packet.
 use Rattle.std.proofs.Common.{◌≡◌, ◌≢◌, ◌<◌, ◌≤◌, ℕ, zero, suc, List, [], ◌∷◌, true, false, inl, inr, Option, Some, None, is_some, option_and_then, option_map}
 use Rattle.std.proofs.Common.{slice_get, refl, sym, ◌∙◌, ap, subst, arith, ◌⊎◌, Contains}
-use Rattle.law_times.proofs.Words.{contains_cases, not_in_none, Ask, Plan, code, code_of, node_of, stream_of, IsScenario, ScenarioParts, IsSoundScenario, sound}
+use Rattle.law_times.proofs.Words.{contains_cases, not_in_none, Ask, Plan, code, code_of, node_of, stream_of, IsOverScenario, ScenarioParts, IsSoundScenario}
+use Rattle.law_times.proofs.Words.{over_sound}
 use Rattle.law_times.proofs.Words.{Part, Tune, Host, Core, Setup, frame_ended, is_member, last_slot, Delivery, Closed, Data, Message, delivery_of, Opened}
 use Rattle.law_times.proofs.Words.{RequestOf, closed_slot, host_closes, hosts_now, opened_slot, part_of, State, StateOff, StateOn, at_core, WaitingPacket}
 use Rattle.law_times.proofs.Words.{first_waiting, stream_at, hosts_in, rank_of, state_at, accepted, has, IsHosted, slot_in, accepted_at, before_slot}
@@ -41,10 +42,10 @@ end_keeps q f c r d tune = subst (λ (k : Core). (frame_ended q f k).table.entri
     record_is : (c : Core) (r d : ℕ) → c.tune ≡ Host r d → record c { tune = Host r d } ≡ c
     record_is c r d tune = ap (λ (t : Tune). record c { tune = t }) (sym tune)
 
-module _ (s : ScenarioParts) (accepted_text : IsScenario s) (rank host b e : ℕ) (among : List ℕ) (group : IsGroup s host b e among) (w : StreamPacket)
+module _ (s : ScenarioParts) (accepted_text : IsOverScenario s) (rank host b e : ℕ) (among : List ℕ) (group : IsGroup s host b e among) (w : StreamPacket)
     (few : w.stream ≤ 3) (there : has among w.node ≡ true) (guest : w.node ≢ host) (reach : IsReached s among w.node host) (interval since : ℕ) where
   abbrev scenario : IsSoundScenario s
-  scenario = sound s accepted_text
+  scenario = over_sound s accepted_text
 
   abbrev c : ℕ
   c = code_of_packet w

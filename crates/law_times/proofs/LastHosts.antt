@@ -1,6 +1,7 @@
 -- The last host that is on hosts its rank within a bound, whatever is lost: nobody else says a schedule.
 use Rattle.std.proofs.Common.{◌≡◌, ◌<◌, ◌≤◌, ◌+◌, ◌-◌, ◌%◌, ℕ, zero, suc, Bool, true, false, Some, inl, inr, length, refl, sym, ◌∙◌, ap, subst, arith}
-use Rattle.law_times.proofs.Words.{cases_eq, cases_lt, false≢true, Plan, IsScenario, ScenarioParts, IsSoundScenario, sound, Tune, Scan, Hold, Host, own_rank}
+use Rattle.law_times.proofs.Words.{cases_eq, cases_lt, false≢true, Plan, IsOverScenario, ScenarioParts, IsSoundScenario, over_sound, Tune, Scan, Hold, Host}
+use Rattle.law_times.proofs.Words.{own_rank}
 use Rattle.law_times.proofs.Words.{hosts_in, next_tune, rank_of, state_at, hosted, IsLastHost, HostsWithin, failover_bound, is_on_in, StaysOn, Hosts}
 use Rattle.law_times.proofs.BootedNodes.{off_throughout}
 use Rattle.law_times.proofs.FramesLeft.{ranks_left, one_less, few_left, left_low, left, is_a_host, hosts_on, goes_on, goes_range}
@@ -13,7 +14,7 @@ use Rattle.law_times.proofs.Settings.{idle}
 use Rattle.law_times.proofs.TuneSteps.{goes_idle, goes_tuned, hold_falls, holds_on, quiet_step, scan_serves, scan_turns, scans_on}
 
 -- a host that is on stays one
-module _ (s : ScenarioParts) (accepted : IsScenario s) (rank host b e : ℕ) (stays : StaysOn s b e host) where
+module _ (s : ScenarioParts) (accepted : IsOverScenario s) (rank host b e : ℕ) (stays : StaysOn s b e host) where
   host_step : (f due : ℕ) (p : Plan) → b ≤ f → suc f ≤ e → Goes s f host (Host rank due) p → (d : ℕ) × (q : Plan) × Goes s (suc f) host (Host rank d) q
   host_step f due p after within goes = elim (cases_eq due f) [ inl now ↦ planned now | inr other ↦ waits other ]
     where
@@ -30,7 +31,7 @@ module _ (s : ScenarioParts) (accepted : IsScenario s) (rank host b e : ℕ) (st
 
       waits : (due ≡ f → ⊥) → (d : ℕ) × (q : Plan) × Goes s (suc f) host (Host rank d) q
       waits other =
-          let range = goes_range s (sound s accepted) f host (Host rank due) p goes in
+          let range = goes_range s (over_sound s accepted) f host (Host rank due) p goes in
           let later : f < due = omega (arith, range, other) in
           let nobody = nobody_else s rank f host (host_own s rank f host due p goes)
           (goes_idle s rank f host (Host rank due) p goes (not_due rank f due later)) in
@@ -47,13 +48,13 @@ module _ (s : ScenarioParts) (accepted : IsScenario s) (rank host b e : ℕ) (st
   pub hosts_at : (g due : ℕ) (p : Plan) → Goes s g host (Host rank due) p → Hosts s rank g host
   hosts_at g due p goes = record {
     due = due;
-    range = (let range = goes_range s (sound s accepted) g host (Host rank due) p goes in (omega (arith, range), omega (arith, range)));
+    range = (let range = goes_range s (over_sound s accepted) g host (Host rank due) p goes in (omega (arith, range), omega (arith, range)));
     tuned = record { plan = p; tuned = goes_tuned s g host (Host rank due) p goes };
   }
 
-module _ (s : ScenarioParts) (accepted : IsScenario s) (rank host b e : ℕ) (last : IsLastHost s rank host b e) where
+module _ (s : ScenarioParts) (accepted : IsOverScenario s) (rank host b e : ℕ) (last : IsLastHost s rank host b e) where
   abbrev scenario : IsSoundScenario s
-  scenario = sound s accepted
+  scenario = over_sound s accepted
 
   abbrev ranks : ℕ
   ranks = length s.hosts

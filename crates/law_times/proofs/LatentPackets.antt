@@ -1,7 +1,8 @@
 -- Within how many frames a packet that waits is delivered: by each round its stream has been granted what has come due, and each slot takes
 -- one of the packets before it.
 use Rattle.std.proofs.Common.{◌≡◌, ◌<◌, ◌≤◌, ◌+◌, ◌-◌, ◌*◌, ◌/◌, ℕ, zero, suc, List, true, inl, inr, refl, sym, ◌∙◌, ap, subst, arith, Contains}
-use Rattle.law_times.proofs.Words.{mul-le-mul_right, cases_eq, le-div, Plan, code, IsScenario, ScenarioParts, sound, Host, Core, count_of, StateOn, TableEntry}
+use Rattle.law_times.proofs.Words.{mul-le-mul_right, cases_eq, le-div, Plan, code, IsOverScenario, ScenarioParts, over_sound, Host, Core, count_of, StateOn}
+use Rattle.law_times.proofs.Words.{TableEntry}
 use Rattle.law_times.proofs.Words.{hosts, state_at, HasEntry, HasSlowStreams, IsOnPace, latency_bound, AwaitsSlot, IsDelivered, PacketsComeWithin, StreamPacket}
 use Rattle.law_times.proofs.CountedSlots.{some, counted}
 use Rattle.law_times.proofs.GrownTables.{IsGrown, NewOr}
@@ -13,7 +14,7 @@ use Rattle.law_times.proofs.QueuedPackets.{Waits, waits_queued}
 use Rattle.law_times.proofs.QueuedRounds.{code_of_packet}
 
 -- the members and the packet, from frame f to frame e
-module _ (s : ScenarioParts) (accepted : IsScenario s) (slow : HasSlowStreams s) (rank host f e : ℕ) (among : List ℕ) (w : StreamPacket) (ahead : ℕ)
+module _ (s : ScenarioParts) (accepted : IsOverScenario s) (slow : HasSlowStreams s) (rank host f e : ℕ) (among : List ℕ) (w : StreamPacket) (ahead : ℕ)
     (awaits : AwaitsSlot s rank host f e among w ahead) where
   abbrev M : ℕ → Type 0
   M x = Members s rank x host among
@@ -74,7 +75,7 @@ module _ (s : ScenarioParts) (accepted : IsScenario s) (slow : HasSlowStreams s)
     back x after soon here = elim (cases_eq before.due x) [ inl now ↦ in_round now (before.grown now here.entry here.there) | inr other ↦ quietly other ]
       where
         before : HostBefore s x host here.core
-        before = host_before s (sound s accepted) slow (some s accepted slow) x host here.core here.on here.host_tune here.entry here.there
+        before = host_before s (over_sound s accepted) slow (some s accepted slow) x host here.core here.on here.host_tune here.entry here.there
 
         due_is : (m : M x) → before.due ≡ m.due
         due_is m = same_due before.rank before.due rank m.due (sym before.tune ∙ (known_host x m before.core before.on).0)
@@ -153,7 +154,7 @@ some_frames queue interval seconds first some slow =
     let one : 1 * interval ≤ queue * interval = mul-le-mul_right interval first in
     le-div 1 (queue * interval + seconds - 1) seconds some (omega (arith, one, some, slow))
 
-module _ (queue interval seconds : ℕ) (s : ScenarioParts) (accepted : IsScenario s) (slow : HasSlowStreams s) (at : s.profile.seconds ≡ seconds)
+module _ (queue interval seconds : ℕ) (s : ScenarioParts) (accepted : IsOverScenario s) (slow : HasSlowStreams s) (at : s.profile.seconds ≡ seconds)
     (rank host f : ℕ) (among : List ℕ) (w : StreamPacket) (ahead : ℕ)
     (awaits : AwaitsSlot s rank host f (f + latency_bound queue interval seconds) among w ahead) (first : ahead < queue) (due : ℕ) (e : TableEntry)
     (has_entry : HasEntry s host (f + latency_bound queue interval seconds - 3) due e) (of_packet : e.code ≡ code w.node w.stream)

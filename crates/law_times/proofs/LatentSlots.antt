@@ -1,7 +1,8 @@
 -- What is owed always fits, and within how many frames a number of slots has come.
 use Rattle.std.proofs.Common.{◌≡◌, ◌<◌, ◌≤◌, ◌+◌, ◌-◌, ◌*◌, ◌/◌, ℕ, suc, List, [], ◌∷◌, true, inl, inr, sym, ◌∙◌, ap, subst, arith, Contains}
 use Rattle.law_service.proofs.FirstRounds.{due_is}
-use Rattle.law_times.proofs.Words.{add-mul-div_right, lt-mul-div-succ, mul-le-mul_left, mul-suc, contains_cases, not_in_none, IsProfile, Numbers, sound, Tune}
+use Rattle.law_times.proofs.Words.{add-mul-div_right, lt-mul-div-succ, mul-le-mul_left, mul-suc, contains_cases, not_in_none, IsProfile, Numbers, over_sound}
+use Rattle.law_times.proofs.Words.{Tune}
 use Rattle.law_times.proofs.Words.{Core, gap_of, total, last_slot, TableEntry, hosts_in, node_before, leads, table_at, round_gap, same_core, IsOnPace}
 use Rattle.law_times.proofs.Words.{OwedAlwaysFits, SlotsComeWithin, StreamsKeepPace, latency_bound}
 use Rattle.law_times.proofs.PacedHosts.{Keeps, KeepsPace, PacedBy, asked_paced, paced_now}
@@ -21,13 +22,14 @@ some_seconds p (inr two) = (let is = ap (λ (n : Numbers). n.seconds) two.0 in o
 
 pub keep_pace : StreamsKeepPace
 keep_pace s accepted slow f v rank due c on tune e there =
-    let keeps : KeepsPace s.profile.seconds c = subst (Keeps s.profile.seconds) on (at_frame s slow (some_seconds s.profile (sound s accepted).profile) f v) in
+    let keeps : KeepsPace s.profile.seconds c = subst (Keeps s.profile.seconds) on
+    (at_frame s slow (some_seconds s.profile (over_sound s accepted).profile) f v) in
     let paced : Paced s.profile.seconds due c.table.entries = subst (λ (t : Tune). PacedBy s.profile.seconds t c.table.entries) tune keeps.table in
     each_of (IsOnPace s.profile.seconds due) c.table.entries e paced.pace there
 
 pub owed_fits : OwedAlwaysFits
 owed_fits s accepted slow rank f p host hosted c due plan plans =
-    let some = some_seconds s.profile (sound s accepted).profile in
+    let some = some_seconds s.profile (over_sound s accepted).profile in
     let keeps : KeepsPace s.profile.seconds c = subst (Keeps s.profile.seconds) plans.on (at_slot s slow some rank f p (last_slot p) host) in
     let lead = leads s rank f p host hosted (last_slot p) (omega arith) in
     let core = same_core lead.core c (node_before s rank f p (last_slot p) host) lead.on plans.on in
@@ -59,7 +61,7 @@ come_due queue interval seconds frames some slow enough x =
 
 pub slots_come : (queue interval seconds : ℕ) → SlotsComeWithin queue interval seconds (latency_bound queue interval seconds)
 slots_come queue interval seconds s accepted slow at host m n before to f a b first last same long after enough =
-    let some = some_seconds s.profile (sound s accepted).profile in
+    let some = some_seconds s.profile (over_sound s accepted).profile in
     let early = keep_pace s accepted slow m host first.rank before first.core first.on first.tune a first.there in
     let late = keep_pace s accepted slow n host last.rank to last.core last.on last.tune b last.there in
     let low = early.accepted in

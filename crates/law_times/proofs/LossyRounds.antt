@@ -1,7 +1,8 @@
 -- What a round leaves of a node that took part in it, whatever is lost: its tune, or the next round of its host.
 use Rattle.std.proofs.Common.{◌≡◌, ◌<◌, ◌≤◌, ◌+◌, ◌==◌, ℕ, Bool, true, false, Option, Some, None, if◌then◌else◌, inl, inr, is_some, refl, sym, ◌∙◌, ap, subst}
 use Rattle.std.proofs.Common.{arith, add-one, ◌⊎◌}
-use Rattle.law_times.proofs.Words.{false≢true, cond-false, ne_eqb, Plan, Schedule, IsScenario, ScenarioParts, IsSoundScenario, sound, Part, Closing, Tune, Hold}
+use Rattle.law_times.proofs.Words.{false≢true, cond-false, ne_eqb, Plan, Schedule, IsOverScenario, ScenarioParts, IsSoundScenario, over_sound, Part, Closing}
+use Rattle.law_times.proofs.Words.{Tune, Hold}
 use Rattle.law_times.proofs.Words.{Host, Core, Setup, closing_accepted, is_member, opening_accepted, schedule_accepted, HostPlan, host_plan, last_slot, DataOf}
 use Rattle.law_times.proofs.Words.{Message, Opened, RequestOf, ScheduleOf, closed_slot, host_closes, hosts_now, opened_slot, part_of, silent, State, StateOff}
 use Rattle.law_times.proofs.Words.{StateOn, hosts_in, rank_of, member_hosts, planned_rank, same_schedule, state_at, IsHosted, slot_in, accepted_at, before_slot}
@@ -61,9 +62,9 @@ closing_hosts q f c m said = by_test (hosts_now f c) refl said
     by_test true at said = at
     by_test false at said = absurd (cc)
 
-module _ (s : ScenarioParts) (accepted : IsScenario s) (rank f host : ℕ) (due : hosts_round rank f (state_at s f host) ≡ true) where
+module _ (s : ScenarioParts) (accepted : IsOverScenario s) (rank f host : ℕ) (due : hosts_round rank f (state_at s f host) ≡ true) where
   abbrev scenario : IsSoundScenario s
-  scenario = sound s accepted
+  scenario = over_sound s accepted
 
   abbrev p : Plan
   p = (is_hosted s scenario host rank f due).0

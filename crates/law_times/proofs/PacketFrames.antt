@@ -2,7 +2,7 @@
 -- and in any other frame all stay.
 use Rattle.std.proofs.Common.{◌≡◌, ◌<◌, ◌≤◌, ◌+◌, ◌==◌, ◌&&◌, ◌||◌, ℕ, suc, List, Bool, true, false, Option, Some, None, inl, inr, refl, sym, ◌∙◌, ap, subst}
 use Rattle.std.proofs.Common.{arith, ◌⊎◌}
-use Rattle.law_times.proofs.Words.{cases_eq, eq-eqb, ne_eqb, Plan, IsScenario, ScenarioParts, IsSoundScenario, sound, Tune, Hold, Host, Core, is_fresh}
+use Rattle.law_times.proofs.Words.{cases_eq, eq-eqb, ne_eqb, Plan, IsOverScenario, ScenarioParts, IsSoundScenario, over_sound, Tune, Hold, Host, Core, is_fresh}
 use Rattle.law_times.proofs.Words.{is_member, count_of, last_slot, State, StateOff, StateOn, hosts_in, holds_in, rank_of, scans, state_at, has, IsHosted}
 use Rattle.law_times.proofs.Words.{state_after_round, after_round, rank_in, round_plan, rounds, Hosting, begins, lose_nothing, IsDelivered, StreamPacket}
 use Rattle.law_times.proofs.Words.{leaves, IsGroup, IsLossless, has_line}
@@ -60,10 +60,10 @@ rank_of_tune rank due (StateOn c) t is (inl host) = let at : c.tune ≡ Host ran
 rank_of_tune rank due (StateOn c) t is (inr hold) = let at : c.tune ≡ Hold rank due = (let same : c.tune ≡ t = cc in same ∙ hold) in ap rank_of at
 
 -- in the frame of its round the host of members hosts it, by their plan
-pub hosted_now : (s : ScenarioParts) → IsScenario s → (rank f host : ℕ) (among : List ℕ) (m : Members s rank f host among) → m.due ≡ f
+pub hosted_now : (s : ScenarioParts) → IsOverScenario s → (rank f host : ℕ) (among : List ℕ) (m : Members s rank f host among) → m.due ≡ f
     → IsHosted s rank f m.plan host
 hosted_now s accepted rank f host among m now =
-    let found = is_hosted s (sound s accepted) host rank f due in
+    let found = is_hosted s (over_sound s accepted) host rank f due in
     subst (λ (p : Plan). IsHosted s rank f p host) (same_plan found.0 found.1) found.1
   where
     due : hosts_round rank f (state_at s f host) ≡ true
@@ -78,10 +78,10 @@ hosted_now s accepted rank f host among m now =
         let core : first.core ≡ c.0 = cc in
         sym first.plan ∙ ap (λ (d : Core). d.plan) core ∙ ap (λ (k : Setting). k.plan) c.2
 
-module _ (s : ScenarioParts) (accepted : IsScenario s) (rank host b e : ℕ) (among : List ℕ) (group : IsGroup s host b e among) (w : StreamPacket)
+module _ (s : ScenarioParts) (accepted : IsOverScenario s) (rank host b e : ℕ) (among : List ℕ) (group : IsGroup s host b e among) (w : StreamPacket)
     (few : w.stream ≤ 3) (there : has among w.node ≡ true) (stays : has_line (leaves w.stream) s b e w.node ≡ false) where
   abbrev scenario : IsSoundScenario s
-  scenario = sound s accepted
+  scenario = over_sound s accepted
 
   -- up to the script lines of the next frame
   pub next_frame : (f k : ℕ) → b ≤ f → suc f ≤ e → Waits w k (rounds s f (state_at s f) w.node) → Waits w k (state_at s (suc f) w.node)

@@ -1,6 +1,7 @@
 -- What the host of members plans in its round: it is of its rank and boot, and the members of the next frame go by it.
 use Rattle.std.proofs.Common.{◌≡◌, ◌<◌, ◌≤◌, ℕ, suc, List, Option, Some, None, sym, ◌∙◌, ap, subst, arith}
-use Rattle.law_times.proofs.Words.{Plan, ScenarioParts, IsScenario, sound, Host, Hosting, HostPlan, StateOn, before_slot, due_rank, has_planned, host_closes}
+use Rattle.law_times.proofs.Words.{Plan, ScenarioParts, IsOverScenario, over_sound, Host, Hosting, HostPlan, StateOn, before_slot, due_rank, has_planned}
+use Rattle.law_times.proofs.Words.{host_closes}
 use Rattle.law_times.proofs.Words.{last_slot, planned_rank, rank_in, rank_of, rounds, setup_of, state_at, IsHosted, IsGroup}
 use Rattle.law_times.proofs.ContendingFrames.{HasBoot, boot_in_slots, planned_boot}
 use Rattle.law_times.proofs.HostedFrames.{plan_gap, rounds_are}
@@ -10,7 +11,7 @@ use Rattle.law_times.proofs.MemberSlots.{lead_last, plans}
 use Rattle.law_times.proofs.QuietFrames.{script_same}
 use Rattle.law_times.proofs.Settings.{Setting, core_at, idle, setting}
 
-module _ (s : ScenarioParts) (accepted : IsScenario s) (rank host f e : ℕ) (among : List ℕ) (group : IsGroup s host f e among) (x : ℕ)
+module _ (s : ScenarioParts) (accepted : IsOverScenario s) (rank host f e : ℕ) (among : List ℕ) (group : IsGroup s host f e among) (x : ℕ)
     (m : Members s rank x host among) (after : f ≤ x) (soon : suc x ≤ e) (hosted : IsHosted s rank x m.plan host) where
   abbrev pub lead : Hosting rank x m.plan (before_slot s rank x m.plan (state_at s x) (last_slot m.plan) host)
   lead = lead_last s rank x m.plan host hosted
@@ -34,7 +35,7 @@ module _ (s : ScenarioParts) (accepted : IsScenario s) (rank host f e : ℕ) (am
   pub host_after : rounds s x (state_at s x) host ≡ StateOn (host_closes (setup_of s host) x lead.core).core
   host_after =
       (let c = core_at (state_at s x host) (idle (Host rank m.due) m.plan) m.hosts in
-      rounds_are s (sound s accepted) host rank x m.plan (ap rank_in c.1 ∙ ap (λ (k : Setting). rank_of k.tune) c.2) hosted.plan
+      rounds_are s (over_sound s accepted) host rank x m.plan (ap rank_in c.1 ∙ ap (λ (k : Setting). rank_of k.tune) c.2) hosted.plan
       ∙ has_planned s rank x m.plan host hosted lead)
 
   pub next_plan : (n : Members s rank (suc x) host among) → planned.plan ≡ n.plan

@@ -1,6 +1,7 @@
 -- Nodes that scan a rank for few enough frames are members after its next round in which nothing is lost.
 use Rattle.std.proofs.Common.{◌≡◌, ◌≤◌, ◌+◌, ◌-◌, ℕ, zero, suc, List, inl, inr, refl, sym, ◌∙◌, subst, arith, ◌⊎◌}
-use Rattle.law_times.proofs.Words.{IsScenario, ScenarioParts, IsSoundScenario, sound, Scan, Hold, Host, has, AwaitRound, ScannersReturn, IsGroup, IsLossless}
+use Rattle.law_times.proofs.Words.{IsOverScenario, ScenarioParts, IsSoundScenario, over_sound, Scan, Hold, Host, has, AwaitRound, ScannersReturn, IsGroup}
+use Rattle.law_times.proofs.Words.{IsLossless}
 use Rattle.law_times.proofs.Words.{AreMembers, HasTune, IsTuned}
 use Rattle.law_times.proofs.FramesLeft.{goes_range}
 use Rattle.law_times.proofs.KeptMembers.{of_members, Waiting, Waits, waiting_joins, waiting_quiet}
@@ -8,10 +9,10 @@ use Rattle.law_times.proofs.QuietFrames.{Goes}
 use Rattle.law_times.proofs.TuneSteps.{tune_goes, tuned_goes}
 use Rattle.law_times.proofs.WaitingNodes.{same_waiting}
 
-module _ (s : ScenarioParts) (accepted : IsScenario s) (rank host f due e : ℕ) (among : List ℕ) (group : IsGroup s host f e among)
+module _ (s : ScenarioParts) (accepted : IsOverScenario s) (rank host f due e : ℕ) (among : List ℕ) (group : IsGroup s host f e among)
     (await : AwaitRound s rank f due host among) where
   abbrev scenario : IsSoundScenario s
-  scenario = sound s accepted
+  scenario = over_sound s accepted
 
   hosts : Goes s f host (Host rank due) await.plan
   hosts = tuned_goes s scenario f host (Host rank due) await.plan await.hosts

@@ -1,7 +1,8 @@
 -- A packet that is the first in its queue is delivered in a data slot of its stream in which nothing is lost.
 use Rattle.std.proofs.Common.{◌≡◌, ◌≢◌, ◌<◌, ◌≤◌, ◌+◌, ◌==◌, ℕ, suc, List, [], true, Option, Some, flat_map, length, refl, sym, ◌∙◌, ap, subst, arith, Contains}
 use Rattle.lwb_base.proofs.NumbersOfRanges.{in_range}
-use Rattle.law_times.proofs.Words.{option_map_or, eqb-true, false≢true, in_filter, in_flat, some_of, Plan, code, node_of, stream_of, IsScenario, ScenarioParts}
+use Rattle.law_times.proofs.Words.{option_map_or, eqb-true, false≢true, in_filter, in_flat, some_of, Plan, code, node_of, stream_of, IsOverScenario}
+use Rattle.law_times.proofs.Words.{ScenarioParts}
 use Rattle.law_times.proofs.Words.{Delivery, Part, Opening, DataSlot, Contention, Closing, Tune, Core, is_member, last_slot, Opened, part_of, State, StateOff}
 use Rattle.law_times.proofs.Words.{StateOn, first_waiting, bus_deliveries, frames_of, ranks_of, state_at, ids, has, slot_in, Slot, before_slot}
 use Rattle.law_times.proofs.Words.{delivery_in_slot, opened_at, round_deliveries, round_plan, slot_deliveries, slots_of, takes_part, in_filtered, windowed}
@@ -59,7 +60,7 @@ module _ (s : ScenarioParts) (rank f : ℕ) (p : Plan) (among : List ℕ) (known
       (ap (λ (y : State). takes_part rank (part_of p j) (before j v) (opened_at s rank f (part_of p j) v y)) d.1
       ∙ ap (λ (o : Option Opened). takes_part rank (part_of p j) (before j v) o) (windowed s rank f (part_of p j) v d.0 d.2))
 
-  module _ (accepted : IsScenario s) (planned : round_plan s rank f (state_at s f) ≡ Some p) (known_rank : rank < length s.hosts) (frame : f < s.frames)
+  module _ (accepted : IsOverScenario s) (planned : round_plan s rank f (state_at s f) ≡ Some p) (known_rank : rank < length s.hosts) (frame : f < s.frames)
       (lossless : (j : ℕ) → LosesNothing s (slot_in s rank f p j)) (w : StreamPacket) (few : w.stream ≤ 3) (t : Tune)
       (goes : tune_of (state_at s f w.node) ≡ Some t) (there : has among w.node ≡ true) where
     pub delivers : (end : ℕ) → IsTurn s rank f p w few t goes end → IsDelivered s rank f among w

@@ -2,8 +2,8 @@
 use Rattle.std.proofs.Common.{◌≡◌, ◌≢◌, ◌<◌, ◌≤◌, ◌+◌, ◌-◌, ◌%◌, ◌==◌, ◌||◌, ℕ, zero, suc, List, [], Bool, true, false, inl, inr, Option, Some, None, fold}
 use Rattle.std.proofs.Common.{if◌then◌else◌, is_some, option_and_then, refl, sym, ◌∙◌, ap, subst, arith, Contains, not}
 use Rattle.law_service.proofs.SharedSlots.{deaf_slot, none_starts, two_start}
-use Rattle.law_times.proofs.Words.{list_all, list_any, option_or, cases_Bool, cases_eq, eqb-true, false≢true, ne_eqb, or_cases, Plan, node_of, IsScenario}
-use Rattle.law_times.proofs.Words.{ScenarioParts, IsSoundScenario, ScriptLine, sound, Opening, Contention, Tune, Hold, Host, Core, frame_ended, is_member}
+use Rattle.law_times.proofs.Words.{list_all, list_any, option_or, cases_Bool, cases_eq, eqb-true, false≢true, ne_eqb, or_cases, Plan, node_of, IsOverScenario}
+use Rattle.law_times.proofs.Words.{ScenarioParts, IsSoundScenario, ScriptLine, over_sound, Opening, Contention, Tune, Hold, Host, Core, frame_ended, is_member}
 use Rattle.law_times.proofs.Words.{plan_round, host_plan, opening, host_closes, State, StateOn, at_core, names, hosts_in, holds_in, before_frame, state_at, ids}
 use Rattle.law_times.proofs.Words.{has, Hears, IsHosted, slot_in, Slot, after_round, before_slot, first_node, message_said, plan_in, rank_in, round_plan}
 use Rattle.law_times.proofs.Words.{rounds, takes_part, setup_of, is_on_and, lines_of, state_after_line, Hosting, accepts_none, has_planned, host_member}
@@ -25,12 +25,12 @@ use Rattle.law_times.proofs.SilentHosts.{host_silent}
 use Rattle.law_times.proofs.SixAskers.{found_two, six_apart, asker_of, one_of_six, first_asker, backoff, next_backoff, asks_by, first_there}
 use Rattle.law_times.proofs.WorkedSix.{all_ask_in_30, all_linked, asks_so, bare_plan, group, host_core, host_in_30, is_asking, members_in_30, no_lines, wishes}
 
-module _ (frames : ℕ) (accepted : IsScenario (six_nodes frames)) where
+module _ (frames : ℕ) (accepted : IsOverScenario (six_nodes frames)) where
   abbrev s : ScenarioParts
   s = six_nodes frames
 
   abbrev scenario : IsSoundScenario s
-  scenario = sound s accepted
+  scenario = over_sound s accepted
 
   -- in a frame the host is as bare as before, the six hold its round, and each has a request due
   pub record Starve (x : ℕ) : Type 0 where

@@ -2,7 +2,8 @@
 use Rattle.std.proofs.Common.{◌≡◌, ◌≤◌, ◌+◌, ◌-◌, ◌==◌, ◌&&◌, ℕ, List, [], ◌∷◌, ◌++◌, Bool, true, false, inl, inr, Option, Some, None, filter_map, flat_map}
 use Rattle.std.proofs.Common.{if◌then◌else◌, length, nat_le, nat_lt, option_and_then, option_map, refl, sym, ◌∙◌, ap, subst, arith}
 use Rattle.bus_terms.proofs.NumbersSaid.{said_by}
-use Rattle.law_times.proofs.Words.{option_map_or, and_parts, cases_eq, cases_lt, eq-eqb, false≢true, lt-leb, ne_eqb, IsScenario, ScenarioParts, Delivery, Part}
+use Rattle.law_times.proofs.Words.{option_map_or, and_parts, cases_eq, cases_lt, eq-eqb, false≢true, lt-leb, ne_eqb, IsOverScenario, ScenarioParts, Delivery}
+use Rattle.law_times.proofs.Words.{Part, over_own_lines}
 use Rattle.law_times.proofs.Words.{Opening, DataSlot, Contention, Closing, Core, Closed, Data, DataOf, Message, Opened, RequestOf, ScheduleOf, delivery_of}
 use Rattle.law_times.proofs.Words.{part_of, State, StateOff, StateOn, last_slot, bus_deliveries, frames_of, state_at, ids, accepted_at, before_slot}
 use Rattle.law_times.proofs.Words.{closed_slot_of, delivery_in_slot, round_deliveries, slot_at, slot_deliveries, slots_of, setup_of, heard_from, HasNoStream}
@@ -62,7 +63,7 @@ slot_none s f j v =
     let slot = (said_by (setup_of s from.0) f (part_of bare_plan j) from.1 d from.4).1 in
     no_data j slot.0 slot.1)))
 
-module _ (frames : ℕ) (accepted : IsScenario (six_nodes frames)) where
+module _ (frames : ℕ) (accepted : IsOverScenario (six_nodes frames)) where
   abbrev s : ScenarioParts
   s = six_nodes frames
 
@@ -117,4 +118,4 @@ never_answered frames accepted = record { host = host_bare frames accepted; deli
 
 -- for example in 800 frames
 in_800 : NobodyIsAnswered 800
-in_800 = never_answered 800 six_800
+in_800 = never_answered 800 (over_own_lines (six_nodes 800) six_800)

@@ -1,7 +1,7 @@
 -- Nodes that wait for the next round of their host, over frames with and without losses: each holds it, or scans the rank and has
 -- done so for few enough frames.
 use Rattle.std.proofs.Common.{◌≡◌, ◌≢◌, ◌<◌, ◌≤◌, ◌+◌, ◌-◌, ℕ, suc, List, true, false, Some, inl, inr, refl, subst, arith}
-use Rattle.law_times.proofs.Words.{Plan, IsScenario, ScenarioParts, Tune, Scan, Hold, Host, Core, frame_ended, own_rank, State, StateOff, StateOn, at_core}
+use Rattle.law_times.proofs.Words.{Plan, IsOverScenario, ScenarioParts, Tune, Scan, Hold, Host, Core, frame_ended, own_rank, State, StateOff, StateOn, at_core}
 use Rattle.law_times.proofs.Words.{hosts_in, before_frame, state_at, has, rounds, setup_of, IsGroup}
 use Rattle.law_times.proofs.FrameEnds.{fallen_end, held_end, scan_end}
 use Rattle.law_times.proofs.HostedFrames.{Planned}
@@ -28,7 +28,7 @@ same_waiting s rank host among f g most more at same w = (
   refl,
 )
 
-module _ (s : ScenarioParts) (accepted : IsScenario s) (rank host b e : ℕ) (among : List ℕ) (group : IsGroup s host b e among) where
+module _ (s : ScenarioParts) (accepted : IsOverScenario s) (rank host b e : ℕ) (among : List ℕ) (group : IsGroup s host b e among) where
   module _ (f most : ℕ) (after : b ≤ f) (within : suc f ≤ e) (few : most ≤ 12) (waiting : Waiting s rank f host among most) where
     module _ (now : waiting.due ≡ f) where
       due : hosts_round rank f (state_at s f host) ≡ true

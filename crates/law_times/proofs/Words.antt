@@ -22,12 +22,13 @@ unfoldable pub use Rattle.text_readers.specs.Reading.{draft_after_line}
 unfoldable pub use Rattle.scenario_text.specs.Network.{network_line}
 pub use Rattle.scenario_text.specs.ScenarioFacts.{IsSoundScenario, turned_by}
 pub use Rattle.scenario_text.specs.ScenarioGrammar.{IsScenario}
+pub use Rattle.scenario_text.specs.OverLines.{IsOverScenario}
 unfoldable pub use Rattle.scenario_text.specs.ScenarioGrammar.{scenario_after_words, scenario_line}
 pub use Rattle.scenario_text.specs.ScenarioParts.{ScenarioParts}
 unfoldable pub use Rattle.scenario_text.specs.ScriptGrammar.{put_line, script_line, step_line}
 pub use Rattle.scenario_text.specs.Setups.{setup_of}
 pub use Rattle.scenario_text.specs.declared.script.ScriptLine.{ScriptLine}
-pub use Rattle.scenario_text.proofs.SoundScenarios.{sound}
+pub use Rattle.scenario_text.proofs.SoundOver.{over_own_lines, over_sound}
 pub use Rattle.bus_rules.specs.Cores.{Core, Setup, as_host, begins_host, booted, closing_accepted, empty_plan, frame_ended, is_fresh, is_member, no_plan}
 pub use Rattle.bus_rules.specs.Cores.{opening_accepted, own_rank, schedule_accepted}
 pub use Rattle.bus_rules.specs.Granting.{Grants, count_of, gap_of, given, grant, granted_by, grants_for, last_code, owed_to, share_in, total}

@@ -4,6 +4,7 @@ use Rattle.std.proofs.Common.{subst, arith}
 use Rattle.std.proofs.lemmas.Bool.{not-true}
 use Rattle.law_service.proofs.ComputedCores.{is_on}
 use Rattle.law_times.proofs.Words.{chars, is_utf8, encode, and_parts, cases_eq, eqb-true, eq-eqb, false≢true, ne_eqb, list_any, Plan, node_of, least_passing}
+use Rattle.law_times.proofs.Words.{over_own_lines}
 use Rattle.law_times.proofs.Words.{one, contended, network_line, IsScenario, scenario_after_words, scenario_line, ScenarioParts, put_line, script_line}
 use Rattle.law_times.proofs.Words.{step_line, draft_after_line, On, Declare, Put, Hold, Host, empty_plan, plan_round, host_plan, names, stream_at, slots_named}
 use Rattle.law_times.proofs.Words.{WaitingPacket, schedule_heard, before_frame, state_at, walks, moment, before_slot, lines_of, node, link, at, core_of}
@@ -141,7 +142,7 @@ one_asks = (refl, refl)
 answered : (g : ℕ) × (6 ≤ g) × (g < 126) × IsAnswered one_slot 0 g 1 2 3
 unfolding walks
 answered =
-    part_on_bus 1 30 (part_within 1 (omega arith) (omega arith)) one_slot one_accepted 0 1 6 (1 ∷ 2 ∷ 3 ∷ []) 2 3
+    part_on_bus 1 30 (part_within 1 (omega arith) (omega arith)) one_slot (over_own_lines one_slot one_accepted) 0 1 6 (1 ∷ 2 ∷ 3 ∷ []) 2 3
     (two_of one_slot 2 3 1 no_lines (empty_plan one 0 1) (group_of one_slot 1 6 126 (2 ∷ 3 ∷ []) (λ v. 1) refl refl refl) one_goes.0 one_hold
     one_goes.1 (refl, refl) one_asks (λ same. absurd (omega (arith, same)), λ same. absurd (omega (arith, same))) (λ same. absurd (omega (arith, same))) refl
     (λ g. record { losses = refl; cuts = refl }) (refl, refl) (refl, refl))
@@ -187,7 +188,7 @@ three_ask = (refl, refl)
 answered_of_three : (g : ℕ) × (6 ≤ g) × (g < 126) × IsAnswered three_slots 0 g 1 2 18
 unfolding walks
 answered_of_three =
-    part_on_bus 3 30 (part_within 3 (omega arith) (omega arith)) three_slots three_accepted 0 1 6 (1 ∷ 2 ∷ 18 ∷ []) 2 18
+    part_on_bus 3 30 (part_within 3 (omega arith) (omega arith)) three_slots (over_own_lines three_slots three_accepted) 0 1 6 (1 ∷ 2 ∷ 18 ∷ []) 2 18
     (two_of three_slots 2 18 3 no_lines (empty_plan (contended 3) 0 1) (group_of three_slots 1 6 126 (2 ∷ 18 ∷ []) (λ v. 1) refl refl refl) three_goes.0
     three_hold three_goes.1 (refl, refl) three_ask (λ same. absurd (omega (arith, same)), λ same. absurd (omega (arith, same)))
     (λ same. absurd (omega (arith, same))) refl (λ g. record { losses = refl; cuts = refl }) (refl, refl) (refl, refl))

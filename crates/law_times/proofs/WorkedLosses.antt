@@ -1,6 +1,7 @@
 -- Three rounds in a row that a member misses, and the one after which it is a member again; it has scanned for twelve frames by then.
 use Rattle.std.proofs.Common.{◌≡◌, ◌≢◌, ℕ, List, [], ◌∷◌, true, nat_le, refl, arith, subst, inr, ◌≤◌, ◌⊎◌}
 use Rattle.law_times.proofs.Words.{leb-true, least_passing, Plan, Scan, Hold, Host, plan_round, host_plan, schedule_heard, before_frame, state_at, walks, has}
+use Rattle.law_times.proofs.Words.{over_own_lines}
 use Rattle.law_times.proofs.Words.{moment, before_slot, HasTune, IsTuned, AreMembers, Begins, IsUpBy, AwaitRound, CostsFew, lossy_rounds, lossy_row, scanned}
 use Rattle.law_times.proofs.Words.{IsGroup, IsLossless, power_before}
 use Rattle.law_times.proofs.ComputedTests.{all_up_to, each_up_to, others_of}
@@ -31,7 +32,7 @@ in_frame_5 = record { losses = refl; cuts = refl }
 
 members : AreMembers three_lost 0 6 1 both
 members =
-    nodes_join three_lost three_is_scenario 1 0 6 (begins 6) both (group 5 6) up 6 (omega arith) (omega arith)
+    nodes_join three_lost (over_own_lines three_lost three_is_scenario) 1 0 6 (begins 6) both (group 5 6) up 6 (omega arith) (omega arith)
     (λ f low high. (let same : 5 ≡ f = omega (arith, low, high) in subst (IsLossless three_lost) same in_frame_5))
 
 rows : all_up_to (λ m. nat_le (lossy_row three_lost 0 1 6 m) 3) 16 ≡ true
@@ -41,7 +42,7 @@ rows = refl
 -- the sixteen frames from 6 on have three rounds with losses, and in twelve of them node 2 scans
 costs : CostsFew 4 three_lost 0 6 1 both 16
 costs =
-    losses_cost_few three_lost three_is_scenario 0 1 6 22 both (group 6 22) members 16 (omega arith)
+    losses_cost_few three_lost (over_own_lines three_lost three_is_scenario) 0 1 6 22 both (group 6 22) members 16 (omega arith)
     (λ m below. leb-true (lossy_row three_lost 0 1 6 m) 3 (each_up_to (λ m. nat_le (lossy_row three_lost 0 1 6 m) 3) 16 rows m below))
 
 counted : (lossy_rounds three_lost 0 1 6 16 ≡ 3) × (scanned three_lost 2 6 16 ≡ 12)
@@ -74,4 +75,5 @@ awaits = record {
 }
 
 returns : AreMembers three_lost 0 22 1 both
-returns = scanners_return three_lost three_is_scenario 0 1 18 21 22 both (group 18 22) awaits (omega arith) (record { losses = refl; cuts = refl })
+returns = scanners_return three_lost (over_own_lines three_lost three_is_scenario) 0 1 18 21 22 both (group 18 22) awaits (omega arith)
+    (record { losses = refl; cuts = refl })

@@ -1,6 +1,7 @@
 -- A stream with a slot in six seconds: two have come due by frame 9, and eight by frame 17.
 use Rattle.std.proofs.Common.{◌≡◌, ◌+◌, ◌≤◌, ℕ, List, [], ◌∷◌, Some, refl, sym, subst, arith, map, Contains}
 use Rattle.law_times.proofs.Words.{range_with_len, contains_head, least_passing, Plan, one, ScenarioParts, Host, plan_round, gap_of, total, host_plan, State}
+use Rattle.law_times.proofs.Words.{over_own_lines}
 use Rattle.law_times.proofs.Words.{StateOff, StateOn, schedule_heard, TableEntry, Core, empty_plan, before_frame, state_at, moment, before_slot, IsHosted}
 use Rattle.law_times.proofs.Words.{node_before, state_after_round, FitsNextRound, PlansRound, core_of, on_core, IsOnPace, HasEntry, HasSlowStreams}
 use Rattle.law_times.proofs.Words.{latency_bound}
@@ -41,14 +42,15 @@ in_frame_14 = has_entry slow_stream 1 14 0 17 (granted_by 8 4) refl refl
 five_slots : (latency_bound 5 6 4 ≡ 10) × (2 + 5 ≤ 8)
 five_slots = (
   refl,
-  slots_come 5 6 4 slow_stream slow_is_scenario slow refl 1 6 14 9 17 10 (granted_by 2 0) (granted_by 8 4) in_frame_6 in_frame_14
+  slots_come 5 6 4 slow_stream (over_own_lines slow_stream slow_is_scenario) slow refl 1 6 14 9 17 10 (granted_by 2 0) (granted_by 8 4) in_frame_6 in_frame_14
       (record { code = refl; interval = refl; accepted = refl }) refl (omega arith) (omega arith),
 )
 
 -- by frame 17 it has been granted just what has come due: 4 seconds times 12 frames in sixes
 on_pace : IsOnPace 4 17 (granted_by 8 4)
 on_pace =
-    keep_pace slow_stream slow_is_scenario slow 14 1 in_frame_14.rank 17 in_frame_14.core in_frame_14.on in_frame_14.tune (granted_by 8 4) in_frame_14.there
+    keep_pace slow_stream (over_own_lines slow_stream slow_is_scenario) slow 14 1 in_frame_14.rank 17 in_frame_14.core in_frame_14.on
+    in_frame_14.tune (granted_by 8 4) in_frame_14.there
 
 -- what is owed by the second round, that of frame 9, fits into it
 abbrev first_plan : Plan
@@ -75,7 +77,7 @@ plans = record {
 }
 
 fits : FitsNextRound slow_stream 5 1 planning 9
-fits = owed_fits slow_stream slow_is_scenario slow 0 5 first_plan 1 hosted planning 9 planned.plan plans
+fits = owed_fits slow_stream (over_own_lines slow_stream slow_is_scenario) slow 0 5 first_plan 1 hosted planning 9 planned.plan plans
 
 -- of 32 streams with a slot in each frame all fits into the round of the next frame, and no more into one of two frames
 abbrev each_frame : ℕ → TableEntry

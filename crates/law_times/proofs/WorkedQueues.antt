@@ -2,6 +2,7 @@
 -- that its bound allows.
 use Rattle.std.proofs.Common.{◌≡◌, ◌≢◌, ◌≤◌, ℕ, List, [], ◌∷◌, true, codes, refl, sym, ◌∙◌, ap, subst, arith, Contains}
 use Rattle.law_times.proofs.Words.{is_utf8, chars, encode, one_of, Ask, Plan, least_passing, one, network_line, IsScenario, scenario_after_words, scenario_line}
+use Rattle.law_times.proofs.Words.{over_own_lines}
 use Rattle.law_times.proofs.Words.{ScenarioParts, script_line, step_line, put_line, draft_after_line, On, Declare, Put, Delivery, plan_round, host_plan, State}
 use Rattle.law_times.proofs.Words.{schedule_heard, TableEntry, before_frame, bus_deliveries, state_at, walks, has, moment, before_slot, node, link, at, core_of}
 use Rattle.law_times.proofs.Words.{Begins, IsUpBy, HasEntry, HasSlowStreams, latency_bound, AwaitsSlot, IsAgreed, IsDelivered, IsQueued, IsServed, StreamPacket}
@@ -50,7 +51,8 @@ up = others_of (IsUpBy s 0 5) 1 (2 ∷ [])
 
 members : AreMembers s 0 6 1 both
 members =
-    nodes_join s accepted 1 0 6 (begins 6) both (group 5 6) up 6 (omega arith) (omega arith) (λ f low high. record { losses = refl; cuts = refl })
+    nodes_join s (over_own_lines s accepted) 1 0 6 (begins 6) both (group 5 6) up 6 (omega arith) (omega arith)
+    (λ f low high. record { losses = refl; cuts = refl })
 
 abbrev packet : StreamPacket
 packet = record { node = 2; boot = 1; stream = 0; packet = record { seq = 0; payload = 0xaa ∷ [] } }
@@ -131,11 +133,12 @@ bound : latency_bound 1 17 4 ≡ 7
 bound = refl
 
 arrives : (g : ℕ) × (6 ≤ g) × (g ≤ 13) × IsDelivered s 0 g both packet
-arrives = packets_come 1 17 4 s accepted slow refl 0 1 6 both packet 0 awaits (omega arith) 13 entry in_frame_10 refl refl (omega arith)
+arrives = packets_come 1 17 4 s (over_own_lines s accepted) slow refl 0 1 6 both packet 0 awaits (omega arith) 13 entry in_frame_10 refl refl (omega arith)
 
 arrives_too : (g : ℕ) × (6 ≤ g) × (g ≤ 13) × IsDelivered s 0 g both packet
 unfolding awaits
-arrives_too = agreed_come 1 17 4 s accepted slow refl 0 1 6 both packet 0 awaits (omega arith) 9 first_entry in_frame_6 refl refl (omega arith) served
+arrives_too = agreed_come 1 17 4 s (over_own_lines s accepted) slow refl 0 1 6 both packet 0 awaits (omega arith) 9 first_entry in_frame_6 refl refl
+    (omega arith) served
 
 abbrev in_frame_13 : Delivery
 in_frame_13 = record { frame = 13; rank = 0; slot = 1; node = 1; from = 2; boot = 1; stream = 0; seq = 0; payload = 0xaa ∷ [] }

@@ -1,6 +1,7 @@
 -- The premises of the laws are met in worked networks, in which their bounds are reached.
 use Rattle.std.proofs.Common.{◌≡◌, ◌≢◌, ◌≤◌, ◌||◌, ℕ, List, [], ◌∷◌, Bool, true, false, Some, refl, ap, arith, ◌-◌}
 use Rattle.law_times.proofs.Words.{ne_eqb, least_passing, Scan, Hold, Host, plan_round, host_plan, schedule_heard, before_frame, state_at, walks, has, moment}
+use Rattle.law_times.proofs.Words.{over_own_lines}
 use Rattle.law_times.proofs.Words.{before_slot, AreMembers, HasTune, Hosts, IsLastHost, LosesHost, Begins, IsUpBy, IsGroup, IsLossless, StaysOff, power_before}
 use Rattle.law_times.proofs.Words.{backup}
 use Rattle.law_times.proofs.BackupHosts.{backups, nodes_follow}
@@ -21,7 +22,7 @@ unfolding power_before
 begins e = record { first = refl; boots = record { boots = omega arith; on = refl }; stays = refl }
 
 comes_first : HasTune line_of_three 5 1 (Host 0 5)
-comes_first = first_rounds line_of_three line_is_scenario 1 0 (begins 5)
+comes_first = first_rounds line_of_three (over_own_lines line_of_three line_is_scenario) 1 0 (begins 5)
 
 -- and no sooner
 not_in_frame_4 : tune_of (state_at line_of_three 4 1) ≡ Some (Scan 0 4)
@@ -47,13 +48,14 @@ line_lossless f late = record { losses = ap (λ (b : Bool). b || false) (ne_eqb 
 -- they are members in every frame from 6 on
 line_members : (g : ℕ) → 6 ≤ g → AreMembers line_of_three 0 g 1 all_three
 line_members g late =
-    nodes_join line_of_three line_is_scenario 1 0 g (begins g) all_three (line_group 5 g) line_up g (omega (arith, late)) (omega arith)
+    nodes_join line_of_three (over_own_lines line_of_three line_is_scenario) 1 0 g (begins g) all_three (line_group 5 g) line_up g
+    (omega (arith, late)) (omega arith)
     (λ f low high. line_lossless f (omega (arith, low)))
 
 -- and members in frame 6 stay members
 line_stays : (g : ℕ) → 6 ≤ g → AreMembers line_of_three 0 g 1 all_three
 line_stays g late =
-    members line_of_three line_is_scenario 0 1 6 g all_three (line_group 6 g) (line_members 6 (omega arith)) g late (omega arith)
+    members line_of_three (over_own_lines line_of_three line_is_scenario) 0 1 6 g all_three (line_group 6 g) (line_members 6 (omega arith)) g late (omega arith)
     (λ f low high. line_lossless f (omega (arith, low)))
 
 -- a host that fails in frame 6: in frame 27 the other one hosts, and not in frame 26
@@ -68,7 +70,7 @@ last_of_two e = record {
 }
 
 takes_over : Hosts backup 1 27 2
-takes_over = last_hosts 2 backup backup_is_scenario refl 1 2 6 27 (last_of_two 27) 27 (omega arith) (omega arith)
+takes_over = last_hosts 2 backup (over_own_lines backup backup_is_scenario) refl 1 2 6 27 (last_of_two 27) 27 (omega arith) (omega arith)
 
 no_host_in_frame_26 : tune_of (state_at backup 26 2) ≡ Some (Scan 1 4)
 unfolding before_frame before_slot moment schedule_heard host_plan plan_round least_passing
@@ -98,8 +100,8 @@ loses_host e = record {
 }
 
 backup_hosts_in_27 : HasTune backup 27 2 (Host 1 27)
-backup_hosts_in_27 = backups backup backup_is_scenario 1 2 6 9 27 left_two (loses_host 27) (omega arith)
+backup_hosts_in_27 = backups backup (over_own_lines backup backup_is_scenario) 1 2 6 9 27 left_two (loses_host 27) (omega arith)
 
 members_of_the_backup : AreMembers backup 1 28 2 left_two
 members_of_the_backup =
-    nodes_follow backup backup_is_scenario 1 2 6 9 28 left_two (loses_host 28) (omega arith) (record { losses = refl; cuts = refl })
+    nodes_follow backup (over_own_lines backup backup_is_scenario) 1 2 6 9 28 left_two (loses_host 28) (omega arith) (record { losses = refl; cuts = refl })

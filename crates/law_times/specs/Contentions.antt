@@ -4,7 +4,7 @@ use Rattle.std.specs.List.{list_any}
 use Rattle.lwb_base.specs.Messages.{Ask, Plan, node_of}
 use Rattle.lwb_base.specs.declared.limits.TheConstants.{GREATEST_GAP}
 use Rattle.scenario_text.specs.ScenarioParts.{ScenarioParts}
-use Rattle.scenario_text.specs.ScenarioGrammar.{IsScenario}
+use Rattle.scenario_text.specs.OverLines.{IsOverScenario}
 use Rattle.bus_rules.specs.declared.act.Act.{Act}
 use Rattle.bus_rules.specs.declared.act.Act.TheVariants.{Declare, Leave}
 use Rattle.bus_rules.specs.Cores.{Core}
@@ -95,5 +95,5 @@ pub record IsAnswered (s : ScenarioParts) (rank f host u v : ℕ) : Type 0 where
 -- within this many rounds one of them is
 abbrev pub PartOnTheBus : ℕ → ℕ → Type 0
 PartOnTheBus slots rounds =
-    (s : ScenarioParts) → IsScenario s → (rank host f : ℕ) (among : List ℕ) (u v : ℕ) → AreTwo s rank host f (f + GREATEST_GAP * rounds) among u v slots
+    (s : ScenarioParts) → IsOverScenario s → (rank host f : ℕ) (among : List ℕ) (u v : ℕ) → AreTwo s rank host f (f + GREATEST_GAP * rounds) among u v slots
     → (g : ℕ) × (f ≤ g) × (g < f + GREATEST_GAP * rounds) × IsAnswered s rank g host u v

@@ -2,7 +2,7 @@
 use Rattle.std.specs.Prelude.{◌≡◌, ◌≢◌, ◌≤◌, ◌+◌, ◌-◌, ◌*◌, ℕ, List, length, true, Some}
 use Rattle.lwb_base.specs.declared.limits.TheConstants.{GREATEST_GAP, QUIET_FRAMES, SEARCH_FRAMES}
 use Rattle.scenario_text.specs.ScenarioParts.{ScenarioParts}
-use Rattle.scenario_text.specs.ScenarioGrammar.{IsScenario}
+use Rattle.scenario_text.specs.OverLines.{IsOverScenario}
 use Rattle.bus_rules.specs.declared.tune.Tune.TheVariants.{Hold, Host}
 use Rattle.bus_rules.specs.Cores.{own_rank}
 use Rattle.bus_terms.specs.Flooding.{has}
@@ -24,7 +24,7 @@ failover_bound hosts = GREATEST_GAP + SEARCH_FRAMES * (hosts - 1) + QUIET_FRAMES
 -- it hosts its rank from then on, whatever is lost, in a network of this many hosts
 abbrev pub HostsWithin : ℕ → ℕ → Type 0
 HostsWithin hosts frames =
-    (s : ScenarioParts) → IsScenario s → length s.hosts ≡ hosts → (rank host b e : ℕ) → IsLastHost s rank host b e
+    (s : ScenarioParts) → IsOverScenario s → length s.hosts ≡ hosts → (rank host b e : ℕ) → IsLastHost s rank host b e
     → (g : ℕ) → b + frames ≤ g → g ≤ e → Hosts s rank g host
 
 -- of two hosts that of rank 0 is off from frame b on, in which these nodes, the other host among them, hold its round of frame d
@@ -43,11 +43,11 @@ takeover_bound = 1 + SEARCH_FRAMES + QUIET_FRAMES
 -- that host has its first round this many frames after the one that fell out, whatever is lost
 abbrev pub BackupsTakeOver : ℕ → Type 0
 BackupsTakeOver frames =
-    (s : ScenarioParts) → IsScenario s → (first second b d e : ℕ) (among : List ℕ) → LosesHost s first second b d e among → d + frames ≤ e
+    (s : ScenarioParts) → IsOverScenario s → (first second b d e : ℕ) (among : List ℕ) → LosesHost s first second b d e among → d + frames ≤ e
     → HasTune s (d + frames) second (Host 1 (d + frames))
 
 -- and if nothing is lost in the frame of that round, the nodes are members after it
 abbrev pub NodesFollow : ℕ → Type 0
 NodesFollow frames =
-    (s : ScenarioParts) → IsScenario s → (first second b d e : ℕ) (among : List ℕ) → LosesHost s first second b d e among → d + frames + 1 ≤ e
+    (s : ScenarioParts) → IsOverScenario s → (first second b d e : ℕ) (among : List ℕ) → LosesHost s first second b d e among → d + frames + 1 ≤ e
     → IsLossless s (d + frames) → AreMembers s 1 (d + frames + 1) second among

@@ -2,7 +2,7 @@
 use Rattle.std.specs.Prelude.{◌≡◌, ◌≢◌, ◌<◌, ◌≤◌, ◌+◌, ℕ, List, true, Some}
 use Rattle.lwb_base.specs.declared.limits.TheConstants.{QUIET_FRAMES}
 use Rattle.scenario_text.specs.ScenarioParts.{ScenarioParts}
-use Rattle.scenario_text.specs.ScenarioGrammar.{IsScenario}
+use Rattle.scenario_text.specs.OverLines.{IsOverScenario}
 use Rattle.bus_rules.specs.declared.tune.Tune.TheVariants.{Host}
 use Rattle.bus_rules.specs.Cores.{own_rank}
 use Rattle.bus_terms.specs.Flooding.{has}
@@ -19,7 +19,7 @@ pub record Begins (s : ScenarioParts) (host b e : ℕ) : Type 0 where
 -- it has its first round this many frames later, whatever is lost
 abbrev pub FirstRoundsCome : ℕ → Type 0
 FirstRoundsCome frames =
-    (s : ScenarioParts) → IsScenario s → (host b : ℕ) → Begins s host b (b + frames) → HasTune s (b + frames) host (Host 0 (b + frames))
+    (s : ScenarioParts) → IsOverScenario s → (host b : ℕ) → Begins s host b (b + frames) → HasTune s (b + frames) host (Host 0 (b + frames))
 
 -- v boots in one of these frames, and is not switched off after that, up to the last of them
 pub record IsUpBy (s : ScenarioParts) (b e v : ℕ) : Type 0 where
@@ -31,7 +31,7 @@ pub record IsUpBy (s : ScenarioParts) (b e v : ℕ) : Type 0 where
 -- nodes that are up by the first round are members from the next frame on, as long as nothing is lost in the frames from it on
 abbrev pub NodesJoin : Type 0
 NodesJoin =
-    (s : ScenarioParts) → IsScenario s → (host b e : ℕ) → Begins s host b e
+    (s : ScenarioParts) → IsOverScenario s → (host b e : ℕ) → Begins s host b e
     → (among : List ℕ) → IsGroup s host (b + QUIET_FRAMES) e among
     → ((v : ℕ) → has among v ≡ true → v ≢ host → IsUpBy s b (b + QUIET_FRAMES) v)
     → (g : ℕ) → b + QUIET_FRAMES < g → g ≤ e → ((f : ℕ) → b + QUIET_FRAMES ≤ f → f < g → IsLossless s f)
@@ -40,5 +40,5 @@ NodesJoin =
 -- members stay members, of any rank, as long as nothing is lost
 abbrev pub MembersStay : Type 0
 MembersStay =
-    (s : ScenarioParts) → IsScenario s → (rank host f e : ℕ) (among : List ℕ) → IsGroup s host f e among → AreMembers s rank f host among
+    (s : ScenarioParts) → IsOverScenario s → (rank host f e : ℕ) (among : List ℕ) → IsGroup s host f e among → AreMembers s rank f host among
     → (g : ℕ) → f ≤ g → g ≤ e → ((n : ℕ) → f ≤ n → n < g → IsLossless s n) → AreMembers s rank g host among

@@ -4,7 +4,7 @@ use Rattle.std.specs.List.{list_any}
 use Rattle.lwb_base.specs.Messages.{Plan}
 use Rattle.lwb_base.specs.declared.limits.TheConstants.{GREATEST_GAP, SEARCH_FRAMES}
 use Rattle.scenario_text.specs.ScenarioParts.{ScenarioParts}
-use Rattle.scenario_text.specs.ScenarioGrammar.{IsScenario}
+use Rattle.scenario_text.specs.OverLines.{IsOverScenario}
 use Rattle.bus_rules.specs.declared.tune.Tune.TheVariants.{Scan, Hold, Host}
 use Rattle.bus_rules.specs.Tuning.{hosts_in, is_scan}
 use Rattle.bus_terms.specs.Bus.{state_at}
@@ -24,7 +24,7 @@ pub record AwaitRound (s : ScenarioParts) (rank f due host : ℕ) (among : List 
 -- they are members after it if nothing is lost in its frame, whatever is lost before
 abbrev pub ScannersReturn : Type 0
 ScannersReturn =
-    (s : ScenarioParts) → IsScenario s → (rank host f due e : ℕ) (among : List ℕ) → IsGroup s host f e among → AwaitRound s rank f due host among
+    (s : ScenarioParts) → IsOverScenario s → (rank host f due e : ℕ) (among : List ℕ) → IsGroup s host f e among → AwaitRound s rank f due host among
     → due + 1 ≤ e → IsLossless s due → AreMembers s rank (due + 1) host among
 
 -- the host has a round of the rank in frame f
@@ -58,5 +58,5 @@ pub record CostsFew (frames : ℕ) (s : ScenarioParts) (rank f host : ℕ) (amon
 
 abbrev pub LossesCostFew : ℕ → Type 0
 LossesCostFew frames =
-    (s : ScenarioParts) → IsScenario s → (rank host f e : ℕ) (among : List ℕ) → IsGroup s host f e among → AreMembers s rank f host among
+    (s : ScenarioParts) → IsOverScenario s → (rank host f e : ℕ) (among : List ℕ) → IsGroup s host f e among → AreMembers s rank f host among
     → (n : ℕ) → n + f ≤ e → ((m : ℕ) → m ≤ n → lossy_row s rank host f m ≤ 3) → CostsFew frames s rank f host among n

@@ -2,7 +2,7 @@
 use Rattle.std.specs.Prelude.{◌≡◌, ◌<◌, ◌≤◌, ◌+◌, ◌-◌, ◌*◌, ◌/◌, ℕ, Bool, false, nat_lt, Contains}
 use Rattle.std.specs.List.{list_any}
 use Rattle.scenario_text.specs.ScenarioParts.{ScenarioParts}
-use Rattle.scenario_text.specs.ScenarioGrammar.{IsScenario}
+use Rattle.scenario_text.specs.OverLines.{IsOverScenario}
 use Rattle.lwb_base.specs.Messages.{Plan}
 use Rattle.lwb_base.specs.declared.limits.TheConstants.{GREATEST_GAP}
 use Rattle.bus_rules.specs.declared.act.Act.{Act}
@@ -33,13 +33,13 @@ pub record IsOnPace (seconds due : ℕ) (e : TableEntry) : Type 0 where
 -- so it is for each stream of a host, by the frame of its next round
 abbrev pub StreamsKeepPace : Type 0
 StreamsKeepPace =
-    (s : ScenarioParts) → IsScenario s → HasSlowStreams s → (f v rank due : ℕ) (c : Core) → state_at s f v ≡ StateOn c → c.tune ≡ Host rank due
+    (s : ScenarioParts) → IsOverScenario s → HasSlowStreams s → (f v rank due : ℕ) (c : Core) → state_at s f v ≡ StateOn c → c.tune ≡ Host rank due
     → (e : TableEntry) → Contains c.table.entries e → IsOnPace s.profile.seconds due e
 
 -- and all that is owed by the next round of a host fits into it
 abbrev pub OwedAlwaysFits : Type 0
 OwedAlwaysFits =
-    (s : ScenarioParts) → IsScenario s → HasSlowStreams s → (rank f : ℕ) (p : Plan) (host : ℕ) → IsHosted s rank f p host
+    (s : ScenarioParts) → IsOverScenario s → HasSlowStreams s → (rank f : ℕ) (p : Plan) (host : ℕ) → IsHosted s rank f p host
     → (c : Core) (due : ℕ) (plan : Plan) → PlansRound s rank f p host c due plan → FitsNextRound s f host c due
 
 -- the most frames until this number of slots of a stream has come, from the frame in which the last of their packets is put
@@ -64,6 +64,6 @@ pub record IsSameStream (a b : TableEntry) : Type 0 where
 -- stream has been granted as many slots more
 abbrev pub SlotsComeWithin : ℕ → ℕ → ℕ → ℕ → Type 0
 SlotsComeWithin queue interval seconds frames =
-    (s : ScenarioParts) → IsScenario s → HasSlowStreams s → s.profile.seconds ≡ seconds → (host m n before to f : ℕ) (a b : TableEntry)
+    (s : ScenarioParts) → IsOverScenario s → HasSlowStreams s → s.profile.seconds ≡ seconds → (host m n before to f : ℕ) (a b : TableEntry)
     → HasEntry s host m before a → HasEntry s host n to b → IsSameStream a b → a.interval ≡ interval
     → before < f → f + frames < to + GREATEST_GAP → a.granted + queue ≤ b.granted

@@ -3,7 +3,7 @@ use Rattle.std.specs.Prelude.{◌≡◌, ◌≢◌, ◌<◌, ◌≤◌, ◌+◌,
 use Rattle.lwb_base.specs.Messages.{Ask, Plan, code, code_of}
 use Rattle.lwb_base.specs.declared.limits.TheConstants.{GREATEST_GAP}
 use Rattle.scenario_text.specs.ScenarioParts.{ScenarioParts}
-use Rattle.scenario_text.specs.ScenarioGrammar.{IsScenario}
+use Rattle.scenario_text.specs.OverLines.{IsOverScenario}
 use Rattle.bus_rules.specs.declared.act.Act.{Act}
 use Rattle.bus_rules.specs.declared.act.Act.TheVariants.{Declare, Leave}
 use Rattle.bus_rules.specs.declared.delivery.Delivery.{Delivery}
@@ -98,7 +98,7 @@ pub record IsServed (s : ScenarioParts) (rank host f e : ℕ) (among : List ℕ)
 -- host then keeps it
 abbrev pub AgreedPacketsComeWithin : ℕ → ℕ → ℕ → ℕ → Type 0
 AgreedPacketsComeWithin queue interval seconds frames =
-    (s : ScenarioParts) → IsScenario s → HasSlowStreams s → s.profile.seconds ≡ seconds
+    (s : ScenarioParts) → IsOverScenario s → HasSlowStreams s → s.profile.seconds ≡ seconds
     → (rank host f : ℕ) (among : List ℕ) (w : StreamPacket) (ahead : ℕ) → (awaits : AwaitsSlot s rank host f (f + frames) among w ahead) → ahead < queue
     → (due : ℕ) (e : TableEntry) → HasEntry s host f due e → e.code ≡ code w.node w.stream → e.interval ≡ interval → e.accepted < f
     → IsServed s rank host f (f + frames) among awaits.members.plan w e → (g : ℕ) × (f ≤ g) × (g ≤ f + frames) × IsDelivered s rank g among w
@@ -107,7 +107,7 @@ AgreedPacketsComeWithin queue interval seconds frames =
 -- frame f, and still has it, not accepted anew, GREATEST_GAP - 1 frames before the last of them
 abbrev pub PacketsComeWithin : ℕ → ℕ → ℕ → ℕ → Type 0
 PacketsComeWithin queue interval seconds frames =
-    (s : ScenarioParts) → IsScenario s → HasSlowStreams s → s.profile.seconds ≡ seconds
+    (s : ScenarioParts) → IsOverScenario s → HasSlowStreams s → s.profile.seconds ≡ seconds
     → (rank host f : ℕ) (among : List ℕ) (w : StreamPacket) (ahead : ℕ) → AwaitsSlot s rank host f (f + frames) among w ahead → ahead < queue
     → (due : ℕ) (e : TableEntry) → HasEntry s host (f + frames - (GREATEST_GAP - 1)) due e → e.code ≡ code w.node w.stream → e.interval ≡ interval
     → e.accepted < f → (g : ℕ) × (f ≤ g) × (g ≤ f + frames) × IsDelivered s rank g among w

@@ -3,7 +3,7 @@ use Rattle.std.specs.Prelude.{◌≡◌, ◌==◌, ℕ, List, [], ◌∷◌, ◌
 use Rattle.lwb_base.specs.Profile.{one}
 use Rattle.link_trace.specs.declared.lines.LinkLine.{LinkLine}
 use Rattle.scenario_text.specs.ScenarioParts.{ScenarioParts}
-use Rattle.scenario_text.specs.ScenarioGrammar.{IsScenario}
+use Rattle.scenario_text.specs.OverLines.{IsOverScenario}
 use Rattle.scenario_text.specs.declared.lines.NodeLine.{NodeLine}
 use Rattle.scenario_text.specs.declared.script.ScriptLine.{ScriptLine}
 use Rattle.bus_rules.specs.declared.act.Act.TheVariants.{On, Declare, Put}
@@ -63,4 +63,4 @@ pub record NobodyIsAnswered (frames : ℕ) : Type 0 where
 
 -- in however many frames a scenario has
 abbrev pub SixAreNeverAnswered : Type 0
-SixAreNeverAnswered = (frames : ℕ) → IsScenario (six_nodes frames) → NobodyIsAnswered frames
+SixAreNeverAnswered = (frames : ℕ) → IsOverScenario (six_nodes frames) → NobodyIsAnswered frames

@@ -1,0 +1,6 @@
+-- for this crate alone
+mod PlainBytes
+mod PrintedLines
+mod PrintedReports
+mod PrintedCalls
+mod WorkedRun
