@@ -18,24 +18,50 @@ from __future__ import annotations
 
 from typing import TYPE_CHECKING, Any
 
+from .common import display
+
 if TYPE_CHECKING:
-    from .results import Log, outcome
-    from .running import run
-    from .scenario import Scenario
+    from .many.sample import Sample
+    from .model.scenario import Scenario
+    from .runs.results import Log, Report, outcome
+    from .runs.running import run
 
 __all__ = ["Log", "Scenario", "__version__", "outcome", "run"]
 
 # Where each name comes from: it is imported when it is asked for, so that the package can be imported without pandas.
-_HOMES = {"Scenario": "scenario", "Log": "results", "outcome": "results", "run": "running"}
+_HOMES = {"Scenario": "model.scenario", "Log": "runs.results", "outcome": "runs.results", "run": "runs.running"}
 
 
 def __getattr__(name: str) -> Any:
     import importlib
 
     if name == "__version__":
-        from .version import version
+        from .common.version import version
 
         return version()
     if name in _HOMES:
         return getattr(importlib.import_module(f"{__name__}.{_HOMES[name]}"), name)
     raise AttributeError(f"module {__name__!r} has no attribute {name!r}")
+
+
+def _of_scenario(scenario: Scenario) -> str:
+    from .pages import notebook
+
+    return notebook.of_scenario(scenario)
+
+
+def _of_report(report: Report) -> str:
+    from .pages import notebook
+
+    return notebook.of_report(report)
+
+
+def _of_sample(sample: Sample, title: str, battery: dict[str, Any]) -> str:
+    from .pages import sample_page
+
+    return sample_page.text(sample, title, battery)
+
+
+display.by("scenario", _of_scenario)
+display.by("report", _of_report)
+display.by("sample", _of_sample)

@@ -17,15 +17,20 @@ from functools import partial
 from pathlib import Path
 from typing import TYPE_CHECKING
 
-from . import ending, front_end
+from . import front_end
+from .common import ending
 
 try:
-    from . import commands, outputs, plans, program, report, sweep
-    from .arguments import ArgumentError
-    from .cautions import of
-    from .commands import Commands
-    from .scenario import Scenario, ScenarioWarning
-    from .visible import csv, visible
+    from .cli import commands, failures, outputs, plan_files, plans, reports, saved, search, verify
+    from .cli.commands import Commands
+    from .common.arguments import ArgumentError
+    from .common.visible import csv, visible
+    from .many import sweep
+    from .model.cautions import of
+    from .model.scenario import Scenario, ScenarioWarning
+    from .pages import report
+    from .runs import program
+    from .studio import command as studio
 except ModuleNotFoundError as error:
     sys.exit(f"foldcairn: {front_end.missing(error)}")
 except KeyboardInterrupt:
@@ -34,7 +39,7 @@ except KeyboardInterrupt:
     sys.exit(130)
 
 if TYPE_CHECKING:
-    from . import losses
+    from .runs import losses
 
 # Exit statuses: 0 done; 1 the text is rejected, or what was asked for can't be had; 2 the words are no command; 3 the input can't be read;
 # 4 the output could not be written whole.
@@ -137,11 +142,11 @@ def _add_draw(listed: Commands) -> None:
     commands.add_file(parser)
     commands.add_ratios(parser, "those of a network are in its text")
     parser.add_argument("--seed", type=int, default=1, help="a whole number (1 without it)")
-    parser.add_argument("--results", metavar="FOLDER", help="where the losses are kept as they come: what was stopped goes on from there")
+    parser.add_argument("--results", metavar="FOLDER", help="where the losses are kept: a later call takes them from there")
 
 
 def _draw(chosen: argparse.Namespace) -> int:
-    from . import losses
+    from .runs import losses
 
     scenario = commands.scenario(chosen.file, chosen.ratios)
     if not scenario.ratio_lines():
@@ -162,30 +167,36 @@ def _add_sweep(listed: Commands) -> None:
         "Runs many scenarios and writes one table: of each file of a folder, or of one file with losses drawn by each seed. A sweep "
         "that was stopped goes on where it was if it is given the same folder of results; what has changed since is made anew.",
     )  # fmt: skip
-    parser.add_argument("path", metavar="PATH", help="a folder with files *.scenario, a network with its ratios, or with --ratios a scenario")
+    parser.add_argument("path", metavar="PATH", help="a folder with files *.scenario, a plan (.toml), a network with its ratios, or with --ratios a scenario")
     commands.add_ratios(parser, "with it PATH is one scenario")
     commands.add_runs(parser, "1-10")
+    parser.add_argument(
+        "--part", metavar="K/N", help="run the K-th of N parts alone, so that several machines share the work and one folder of results"
+    )
     commands.add_receivers(parser)
     parser.add_argument(
         "--measure", choices=("sums", "planning"), default="sums",
         help="what is measured: sums of deliveries, drops and ticks (without it), or the main numbers of planning.summary",
     )  # fmt: skip
     parser.add_argument("--json", action="store_true", help="write JSON with the versions of package and program, in place of CSV")
+    saved.add_option(parser)
 
 
 def _drawing(file: str, ratios: str | None = None, seed: int = 1) -> losses.Drawing:
     """The scenario of a file with its ratios, or those of a table, whose losses are drawn by a seed; where it is too long for a log, it is
     counted. In the process of a worker."""
-    from . import counts, lines, losses
+    from .many import counts
+    from .runs import losses
 
     made = commands.scenario(file, ratios)
-    return (counts.Sampled if len(made.nodes) * made.frames > lines.NODE_FRAMES_MOST else losses.Drawing)(made, seed)
+    return (losses.Drawing if made.is_for_run else counts.Sampled)(made, seed)
 
 
 def _cases(chosen: argparse.Namespace) -> tuple[sweep.Build, list[dict[str, object]]]:
     """What builds the scenarios of a sweep, and the cases."""
     path = Path(chosen.path)
-    if chosen.ratios or (path.is_file() and commands.is_network(commands.read(chosen.path))):
+    planned = commands.plan(chosen.path) if path.is_file() else None
+    if chosen.ratios or planned is not None or (path.is_file() and commands.is_network(commands.read(chosen.path))):
         if not path.is_file():
             raise ArgumentError(f"{path} is no file; with --ratios a scenario is named, whose losses are drawn")
         of_table = {"ratios": [chosen.ratios]} if chosen.ratios else {}
@@ -202,16 +213,29 @@ def _cases(chosen: argparse.Namespace) -> tuple[sweep.Build, list[dict[str, obje
     return sweep.from_file, cases
 
 
+def _part(words: str, cases: list[dict[str, object]]) -> list[dict[str, object]]:
+    """The cases of the part `K/N`: each N-th from the K-th on. Raises `ArgumentError` where the words are no such part, or it has no case."""
+    number, _, parts = words.partition("/")
+    if not (number.isdecimal() and parts.isdecimal() and 1 <= int(number) <= int(parts)):
+        raise ArgumentError(f"`--part` is {words!r}, and has to be K/N with K from 1 to N, as 2/5 for the second of five parts")
+    found = cases[int(number) - 1 :: int(parts)]
+    if not found:
+        raise ArgumentError(f"`--part` is {words!r}, and there are {len(cases)} cases alone")
+    return found
+
+
 def _sweep(chosen: argparse.Namespace) -> int:
     from . import planning
 
     build, cases = _cases(chosen)
+    cases = cases if chosen.part is None else _part(chosen.part, cases)
     whom = commands.receivers(chosen.receivers)
     if whom is not None and chosen.measure != "planning":
         raise ArgumentError("`--receivers` needs `--measure planning`: sums count all deliveries")
     measures: dict[str, sweep.Measure] = {"planning": partial(planning.summary, receivers=whom), "sums": sweep.summary}
     with plans.workers(chosen.jobs) as pool:
         table = sweep.sweep(build, cases, measures[chosen.measure], executor=pool, results=chosen.results)
+    saved.write(chosen, {"cases": table}, Path(chosen.path).stem)
     commands.say(report.as_json({"cases": table}, table.attrs) if chosen.json else csv(table))
     return 0 if (table.status == "ok").all() else _FAILED
 
@@ -221,7 +245,7 @@ def _add_explain(listed: Commands) -> None:
         listed, "explain", _explain,
         "Says why a text is rejected, by line, word and range; of a scenario that is accepted, what it hardly means.",
     )  # fmt: skip
-    parser.add_argument("file", metavar="FILE", help="a text, or - for standard input")
+    parser.add_argument("file", metavar="FILE", help="a text, a plan (.toml), or - for standard input")
     parser.add_argument(
         "--command", choices=("run", "flood", "deadlines"), default="run", help="the command of the program that reads it (run without it)"
     )
@@ -232,7 +256,7 @@ def _explain(chosen: argparse.Namespace) -> int:
     # `bus` reads what `run` reads, and is faster, and `outcome` reads networks.
     has_ratios = chosen.command == "run" and commands.is_network(text)
     program.execute(["outcome", "1"] if has_ratios else ["bus" if chosen.command == "run" else chosen.command], text)
-    cautions = of(Scenario.read(text), long=has_ratios) if chosen.command == "run" else []
+    cautions = of(commands.scenario(chosen.file) if chosen.file.endswith(".toml") else Scenario.read(text), long=has_ratios) if chosen.command == "run" else []
     for caution in cautions:
         commands.say(f"warning: {caution}\n")
     if not cautions:
@@ -240,7 +264,10 @@ def _explain(chosen: argparse.Namespace) -> int:
     return 0
 
 
-_COMMANDS = (report.add_command, outputs.add_commands, plans.add_commands, _add_draw, _add_sweep, _add_explain)
+_COMMANDS = (
+    plan_files.add_commands, reports.add_command, outputs.add_commands, plans.add_commands, studio.add_commands, verify.add_command,
+    failures.add_commands, search.add_command, _add_draw, _add_sweep, _add_explain,
+)  # fmt: skip
 
 if __name__ == "__main__":
     sys.exit(main())

@@ -6,28 +6,7 @@
     log = foldcairn.run(network)
     planning.delivery_ratio(log, receivers="hosts")
 
-| question | call |
-|---|---|
-| delivery ratio of each stream, of what was put and of what was sent | `delivery_ratio(log)` |
-| delivery ratio at each node, or of each stream at each node | `delivery_ratio(log, "node")`, `delivery_ratio(log, "pair")` |
-| where all packets went; each single packet | `fates(log, "all")`, `fates(log)`; `packets(log)` |
-| latency from put to delivery; each delivery | `latency(log)`; `latencies(log)` |
-| the share of packets within a deadline | `deadline(log, seconds=30)` |
-| duty cycle of each node | `duty_cycle(log)` |
-| battery life | `battery_life(log)` |
-| what the energy goes to | `radio_time(log, shares=True)`, `radio_time(log, "all", shares=True)` |
-| when each node joined, and how soon it was back after its power was off | `joins(log)`; `power_cycles(log)` |
-| when each stream was accepted and got its slots | `streams(log)`; `data_slots(log)` has each slot |
-| which host serves when, and when all had joined and been accepted | `hosts(log)`; `rounds(log)` has each round |
-| when two hosts served at once | `hosts(log, "at once")` |
-| outages | `outages(log)`, `outages(log, "stream")`, `outages(log, "node")` |
-| requests, collisions, acknowledgements | `contention(log)`, `contention(log, "node")`, `contention(log, "slot")` |
-| how likely all this is, over many seeds | `sample(scenario, seeds=range(1000))` |
-| which links and nodes matter most | `importance(scenario)`, `importance(scenario, "nodes")` |
-| how many more streams the network takes | `capacity(scenario, every=60)` |
-| how long things take at most, by proof | `bounds(scenario)`, `bounds(scenario, "stream")` |
-| what of the run is hardly as it was meant | `cautions(log)` |
-| the main numbers of a run in one row, to compare many | `summary(log)`, or `sweep.sweep(build, cases, planning.summary)` |
+QUESTIONS
 
 `log` is a `results.Log`, as `foldcairn.run` and `results.log` give it. `delivery_ratio`, `fates`, `packets`, `latency`, `latencies`,
 `deadline`, `duty_cycle`, `battery_life` and `summary` also take a report without a log, as `results.outcome` gives it for runs
@@ -48,26 +27,31 @@ from typing import Any
 
 import pandas as pd
 
-from . import arguments, bounds as _bounds, capacity as _capacity, delivery, importance as _importance, radio, rounds as _rounds, sample as _sample, service
-from .answers import answer
-from .counts import Counts
-from .labels import answers
-from .receivers import Receivers
-from .program import Refused
-from .results import Log, Report, bus as _bus, log as _log
-from .scenario import Scenario
+from .answers import bounds as _bounds, delivery, fates as _fates, outages as _outages, radio, rounds as _rounds, service, tables as _tables
+from .answers.answering import answer
+from .answers.labels import answers
+from .common import arguments
+from .many import capacity as _capacity, importance as _importance, sample as _sample
+from .many.counts import Counts
+from .model.receivers import Receivers
+from .model.scenario import Scenario
+from .requirements import failing as _failing, relaying as _relaying, verifying as _verifying
+from .runs.program import Refused
+from .runs.results import Log, Report, bus as _bus, log as _log
+from .search import searching as _searching
 
+__doc__ = (__doc__ or "").replace("QUESTIONS", _tables.questions())
 __all__ = [
-    "battery_life", "bounds", "capacity", "cautions", "contention", "data_slots", "deadline", "delivery_ratio", "duty_cycle", "fates",
-    "hosts", "importance", "joins", "latencies", "latency", "outages", "packets", "power_cycles", "radio_time", "rounds", "sample",
-    "streams", "summary", "tables",
+    "battery_life", "bounds", "capacity", "cautions", "contention", "data_slots", "deadline", "delivery_ratio", "duty_cycle", "failures",
+    "fates", "hosts", "importance", "joins", "latencies", "latency", "outages", "packets", "power_cycles", "radio_time", "relays", "rounds",
+    "sample", "search", "streams", "summary", "tables", "verdicts",
 ]  # fmt: skip
 
 delivery_ratio = answers(delivery.delivery_ratio)
 deadline = answers(delivery.deadline)
 latency = answers(delivery.latency)
 latencies = answers(delivery.latencies)
-packets, fates = answers(delivery.packets), answers(delivery.fates)
+packets, fates = answers(_fates.packets), answers(_fates.fates)
 battery_life = answers(radio.battery_life)
 duty_cycle = answers(radio.duty_cycle)
 radio_time = answers(radio.radio_time)
@@ -77,50 +61,52 @@ rounds = answers(_rounds.rounds)
 streams = answers(_rounds.streams)
 contention = answers(service.contention)
 hosts = answers(service.hosts)
-outages = answers(service.outages)
+outages = answers(_outages.outages)
 power_cycles = answers(service.power_cycles)
 importance, capacity = answers(_importance.importance), answers(_capacity.capacity)
 sample = _sample.sample
 bounds = answers(_bounds.bounds)
+verdicts = _verifying.verdicts
+failures, relays = _failing.failures, _relaying.relays
+search = _searching.search
 
 
 @answer
 def tables(log: Log, *, receivers: Receivers = None, battery: dict[str, Any] | None = None) -> dict[str, pd.DataFrame]:
-    """All answers of a run, by the names that the files of `python3 -m foldcairn report --csv` have. `receivers` is as in
-    `delivery_ratio`, and `battery` has the words of `battery_life`, as `{"capacity_mah": 2500, "mains": [1]}`."""
-    return {
-        "delivery-by-stream": delivery_ratio(log, receivers=receivers),
-        "delivery-by-node": delivery_ratio(log, "node", receivers=receivers),
-        "delivery-by-pair": delivery_ratio(log, "pair", receivers=receivers),
-        "fates": fates(log).reset_index(),
-        "fates-total": fates(log, "all"),
-        "packets": packets(log),
-        "latency-by-stream": latency(log, receivers=receivers),
-        "latency-by-node": latency(log, "node", receivers=receivers),
-        "hosts": hosts(log),
-        "hosts-at-once": hosts(log, "at once"),
-        "joins": joins(log),
-        "power-cycles": power_cycles(log),
-        "streams": streams(log),
-        "contention": contention(log),
-        "contention-by-node": contention(log, "node"),
-        "contention-by-slot": contention(log, "slot"),
-        "outages": outages(log),
-        "outages-by-stream": outages(log, "stream"),
-        "outages-by-node": outages(log, "node"),
-        "radio-time": radio_time(log).reset_index(),
-        "radio-time-total": radio_time(log, "all"),
-        "duty-cycle": duty_cycle(log),
-        "battery-life": battery_life(log, **(battery or {})),
-        "bounds": bounds(log),
-        "bounds-by-stream": bounds(log, "stream"),
-    }
+    """All answers of a run.
+
+    Parameters
+    ----------
+    log : results.Log
+        The run.
+    receivers : optional
+        For whom packets are meant, as in `delivery_ratio`.
+    battery : dict, optional
+        The words of `battery_life`, as `{"capacity_mah": 2500, "mains": [1]}`.
+
+    Returns
+    -------
+    dict of str to pandas.DataFrame
+        The tables by the names that the files of `python3 -m foldcairn report --csv` have.
+    """
+    return {one.name: one.of(answers(one.call), log, receivers, battery or {}) for one in _tables.TABLES}
 
 
 @answer
 def cautions(log: Log) -> list[str]:
-    """What of a run is hardly as it was meant, in sentences: the cautions of its scenario, two hosts that served at once, a network
-    without a host at the end, nodes that never joined, and streams that were never accepted."""
+    """What of a run is hardly as it was meant.
+
+    Parameters
+    ----------
+    log : results.Log
+        The run.
+
+    Returns
+    -------
+    list of str
+        Sentences: the cautions of its scenario, two hosts that served at once, a network without a host at the end, nodes that never
+        joined, and streams that were never accepted.
+    """
     scenario, found = log.scenario, list(log.scenario.cautions())
     for row in service.hosts(log, "at once").itertuples():
         found.append(
@@ -144,22 +130,50 @@ def cautions(log: Log) -> list[str]:
 
 
 def summary(run: Report | Counts | Scenario | str, *, receivers: Receivers = None) -> dict[str, float]:
-    """The main numbers of a run in one row, for `sweep.sweep`; a scenario or its text is run first, by `results.log`, or by `results.bus`
-    where it is too long for a log. Of a report without a log there are the two ratios, and, by plan, the latencies, `duty_cycle` and
-    `duty_cycle_in_rounds`. Of counts of one seed, which a sweep of `counts.Sampled(network, seed)` has soonest, there are the same but for
-    `ratio_of_sent_while_on`, as `Sample.network` has them, and the parts `dropped`, `sent`, `waiting` and `cleared`.
+    """The main numbers of a run in one row, for `sweep.sweep`.
 
-    ratio_of_put, ratio_of_sent_while_on   as `delivery_ratio` has them, over all streams and the `receivers` that are meant
-    latency_median_seconds, latency_p90_seconds    seconds from put to delivery
-    hosts                          how many terms of hosts there were
-    all_joined_seconds, all_accepted_seconds   of the first term, as `hosts` has them: of the first start, without power cycles
-    never_accepted                 streams that were requested in a term and never accepted in it, over all terms
-    requests, request_success      requests of all terms, and the part of them that was acknowledged
-    outage_seconds                 the longest outage at a change of hosts, or to the end of the run
-    no_host_from_seconds           from when on no host serves to the end of the run
-    duty_cycle, duty_cycle_in_rounds   the means over the nodes that had power
-    Times are true time, in seconds from the start of the run, but for those that are said to be by plan. What there is not is not a
-    number (NaN). Raises what `results.log` and `delivery_ratio` raise.
+    A scenario or its text is run first, by `results.log`, or by `results.bus` where it is too long for a log.
+
+    Parameters
+    ----------
+    run : results.Report, counts.Counts, Scenario or str
+        The run. Of counts of one seed a sweep of `counts.Sampled(network, seed)` has it soonest.
+    receivers : optional
+        For whom packets are meant, in the forms of `foldcairn.receivers`; without it what the scenario says.
+
+    Returns
+    -------
+    dict of str to float
+        Times are true time, in seconds from the start of the run, but for those that are said to be by plan. What there is not is not a
+        number (NaN).
+
+        ratio_of_put, ratio_of_sent_while_on
+            as `delivery_ratio` has them, over all streams and the `receivers` that are meant
+        latency_median_seconds, latency_p90_seconds
+            seconds from put to delivery
+        hosts
+            how many terms of hosts there were
+        all_joined_seconds, all_accepted_seconds
+            of the first term, as `hosts` has them: of the first start, without power cycles
+        never_accepted
+            streams that were requested in a term and never accepted in it, over all terms
+        requests, request_success
+            requests of all terms, and the part of them that was acknowledged
+        outage_seconds
+            the longest outage at a change of hosts, or to the end of the run
+        no_host_from_seconds
+            from when on no host serves to the end of the run
+        duty_cycle, duty_cycle_in_rounds
+            the means over the nodes that had power
+
+        Of a report without a log there are the two ratios, and, by plan, the latencies, `duty_cycle` and `duty_cycle_in_rounds`. Of
+        counts there are the same but for `ratio_of_sent_while_on`, as `Sample.network` has them, and the parts `dropped`, `sent`,
+        `waiting` and `cleared`.
+
+    Raises
+    ------
+    ArgumentError
+        As `delivery_ratio` does; it also raises what `results.log` raises.
     """
     receivers = arguments.settled(receivers)
     if isinstance(run, Counts):
@@ -183,7 +197,7 @@ def summary(run: Report | Counts | Scenario | str, *, receivers: Receivers = Non
         "never_accepted": int((terms["streams"] - terms["accepted"]).sum()),
         "requests": requests,
         "request_success": float(asked["acknowledgements"].sum() / requests) if requests else float("nan"),
-        "outage_seconds": float(service.outages(log)["outage_seconds"].max()),
+        "outage_seconds": float(_outages.outages(log)["outage_seconds"].max()),
         "no_host_from_seconds": service.no_host_from(log),
         "duty_cycle": float(duty["duty_cycle"].mean()),
         "duty_cycle_in_rounds": float(duty["duty_cycle_in_rounds"].mean()),

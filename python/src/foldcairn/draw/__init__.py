@@ -1,0 +1,1 @@
+"""Pictures of scenarios and runs, by matplotlib. Tested, not proved."""

@@ -1,0 +1,217 @@
+"""What a plan has: a dataclass for each table of the file, whose fields are its keys (`schema.key` tells kind, range, unit and meaning).
+
+Times are in seconds, places in metres, names are those of people. Tested, not proved.
+"""
+
+from __future__ import annotations
+
+from dataclasses import dataclass, field
+
+from .schema import REQUIRED, key
+from .words import ALL, BATTERY, CAPACITIES, DRAWN, MAINS, POWERS
+
+
+@dataclass
+class Row:
+    """What was read from one place of a file.
+
+    where    the place, for messages, as "plan.toml, line 12, [[node]], row 3"; empty where it was not read
+    origin   the CSV file, or an empty text, and which row of it, from 0 on; None where it was not read
+    """
+
+    where: str = field(default="", compare=False, repr=False, kw_only=True)
+    origin: tuple[str, int] | None = field(default=None, compare=False, repr=False, kw_only=True)
+
+
+@dataclass
+class Settings:
+    """`[plan]`: what holds for the whole plan."""
+
+    name: str = key("text", "the name of the plan", "")
+    site: str = key("text", "the name of the site", "")
+    profile: int = key("whole", "1: frames of 4 s, payloads of 32 bytes; 2: frames of 5 s, payloads of 96 bytes, contention slots", 1, low=1, high=2)
+    sends: int = key("whole", "how often a node transmits at most in one flood", 2, low=1, high=4)
+    contend: int = key("whole", "contention slots of a round, in profile 2; 0 is the one that a round has in any case", 0, low=0, high=4)
+    hours: float = key("real", "the length of a run; at most 4,096 frames", 1.0, above=0, unit="h")
+    seeds: int = key("whole", "how many draws a verdict may use at most", 100, low=1, high=10_000)
+    vary_ids: bool = key("truth", "whether each seed assigns the ids of nodes anew, which rule contention", False)
+    keep_alive: float | None = key("real", "keep-alive of each stream whose packets come more seldom", above=0, unit="s")
+
+
+@dataclass
+class Node(Row):
+    """`[[node]]`, or a row of the table of nodes."""
+
+    name: str = key("name", "what people call it", REQUIRED, aliases=("node", "label"))
+    id: int | None = key("whole", "its number in the network; given in the natural order of names where it is not, and written back", low=1, high=200)
+    x: float | None = key("real", "its place", unit="m", aliases=("east", "pos_x"))
+    y: float | None = key("real", "its place, upwards on the map", unit="m", aliases=("north", "pos_y"))
+    floor: int = key("whole", "the floor that it is on, from the lowest", 0, low=-20, high=200, aliases=("storey", "level"))
+    powered: str | float = key("power", "what feeds it: mains, a kind of battery, or a capacity in mAh", BATTERY, above=0, unit="mAh",
+                               choices=POWERS, aliases=("power", "supply"))  # fmt: skip
+    clock: int = key("whole", "how much its clock gains", 0, low=-20, high=20, unit="ppm", aliases=("ppm", "drift"))
+    offset: int = key("whole", "what its clock reads at the start", 0, low=0, high=256_000, unit="ticks of 1/64 µs")
+    on: float = key("real", "when it gets power first", 0.0, low=0, unit="s")
+    candidate: bool = key("truth", "a place where a relay may be put: it is no node of the network yet", False)
+    tags: list[str] = key("texts", "words by which requirements and tables name several nodes at once", [], aliases=("tag", "role", "group"))
+    note: str = key("text", "a note for people", "", aliases=("notes", "comment", "remark"))
+
+    @property
+    def is_on_mains(self) -> bool:
+        """Whether it never needs a battery."""
+        return self.powered == MAINS
+
+
+@dataclass
+class Link(Row):
+    """`[[link]]`, or a row of a table of links: what was measured from one node to another. A row without any measure is one whose ratio
+    is not known."""
+
+    sender: str = key("node", "the node that transmits", REQUIRED, name="from", aliases=("tx", "source", "u", "src", "sender", "transmitter"))
+    receiver: str = key("node", "the node that receives", REQUIRED, name="to", aliases=("rx", "target", "v", "dst", "dest", "destination", "receiver"))
+    ratio: float | None = key("real", "the part of what is sent that is received", low=0, high=1, aliases=("prr", "pdr", "reception_ratio"))
+    sent: int | None = key("whole", "how many probes were sent", low=1, aliases=("packets", "probes", "tries"))
+    received: int | None = key("whole", "how many of them were received", low=0, aliases=("got", "successes"))
+    rssi: float | None = key("real", "the received power", low=-150, high=30, unit="dBm", aliases=("rss",))
+    at: float | str | None = key("time", "from when on it holds: seconds from the start of the run, or a date and a time, of which the first is the start",
+                                 low=0, unit="s", aliases=("time", "timestamp", "datetime", "seconds"))  # fmt: skip
+    both: bool = key("truth", "whether it holds for the other direction too", False, aliases=("bidirectional", "symmetric"))
+
+
+@dataclass
+class Stream(Row):
+    """`[[stream]]`, or a row of the table of streams: packets of one kind from one node."""
+
+    source: str = key("node", "the node that has the packets", REQUIRED, name="from", aliases=("sensor", "node", "source", "sender", "tx"))
+    name: str = key("text", "what people call it; without one the name of its node, and after a slash its number where that is not 0", "",
+                    aliases=("label",))  # fmt: skip
+    to: str | list[str] = key("to", "for whom the packets are meant: a node or several, `hosts` for whichever host serves, or `all`", ALL,
+                              aliases=("controller", "sink", "sinks", "target", "receiver", "receivers", "rx", "destination"))  # fmt: skip
+    number: int | None = key("whole", "which of the streams of its node it is; given in the natural order of names where it is not", name="stream",
+                             low=0, high=3)  # fmt: skip
+    every: float | None = key("real", "the time from one packet to the next", above=0, unit="s", aliases=("period",))
+    sporadic: float | None = key("real", "in place of that: packets at random times, and the mean time between them", above=0, unit="s",
+                                 aliases=("mean",))  # fmt: skip
+    at: list[float] = key("reals", "in place of both: the times of its packets", [], low=0, unit="s")
+    deadline: float | None = key("real", "how late its packets may come", above=0, unit="s", aliases=("due",))
+    bytes: int | None = key("whole", "the length of a payload, at most 32, in profile 2 96; 3 where it is not given", low=0, high=96,
+                            aliases=("length", "payload", "size"))  # fmt: skip
+    interval: int | None = key("whole", "the interval that it requests; its period rounded down where it is not given, of sporadic packets the "
+                               "deadline, else the mean", low=1, high=120, unit="s")  # fmt: skip
+    start: float | str = key("start", "when it is requested and begins; `drawn`: at a phase of its period that each seed draws", 0.0, low=0, unit="s",
+                             choices=(DRAWN,), aliases=("begin", "phase"))  # fmt: skip
+    until: float | None = key("real", "when its packets end; with the run where it is not given", above=0, unit="s", aliases=("end", "stop"))
+    keep_alive: float | None = key("real", "how often it sends a packet of no bytes so that its host keeps it; 0 for never", low=0, unit="s")
+    tags: list[str] = key("texts", "words by which requirements name several streams at once", [], aliases=("tag", "kind", "group"))
+
+
+@dataclass
+class Host(Row):
+    """`[[host]]`: a node that may serve the rounds."""
+
+    node: str = key("node", "the node", REQUIRED)
+    rank: int = key("whole", "0 is the first choice, 1 to 3 are backups", 0, low=0, high=3)
+
+
+@dataclass
+class Floor(Row):
+    """`[floor]`: the plan of the building."""
+
+    picture: str = key("file", "a picture of the floor plan, in the folder of the plan file", "")
+    extent: list[float] | None = key("box", "where the left, lower, right and upper edges of the picture are; nodes lie within", unit="m")
+    metres_per_pixel: float | None = key("real", "in place of that: how large a pixel is, with the lower left corner at 0, 0", above=0, unit="m")
+    height: float = key("real", "from one floor to the next", 6.0, above=0, unit="m")
+    floors: int | None = key("whole", "how many floors there are; nodes are on floors from 0 on", low=1, high=200)
+
+
+@dataclass
+class Losses(Row):
+    """`[losses]`: where the reception ratios come from."""
+
+    source: str = key("choice", "survey: what was measured; positions: a model of path loss; both: the model where nothing was measured; none: each "
+                      "link passes all", "survey", name="from", choices=("survey", "positions", "both", "none"))  # fmt: skip
+    preset: str = key("text", "the surroundings, whose numbers hold where none is given here", "")
+    exponent: float | None = key("real", "how fast power falls with distance; 2 in free space", above=0, high=10)
+    reference_db: float = key("real", "the loss over the first metre", 40.2, low=0, high=120, unit="dB")
+    deviation_db: float | None = key("real", "how far links scatter about the model, a standard deviation", low=0, high=40, unit="dB")
+    floor_db: float | None = key("real", "the loss of a floor", low=0, high=100, unit="dB")
+    wall_db: float | None = key("real", "the loss of a wall of `walls` that has none of its own", low=0, high=100, unit="dB")
+    transmit_dbm: float = key("real", "the power of the transmitter", 0.0, low=-60, high=30, unit="dBm")
+    noise_dbm: float = key("real", "the noise at the receiver", -98.0, low=-140, high=0, unit="dBm")
+    correlation: float = key("real", "how much the scatter of the two directions of a link has in common", 1.0, low=0, high=1)
+    bytes: int | None = key("whole", "the length of the packets that count, header and payload; the longest of the plan where it is not given", low=1,
+                            high=125)  # fmt: skip
+    least: float = key("real", "links with a smaller ratio are left out", 0.05, low=0, high=1)
+    unknown: str = key("choice", "what a link is whose measure is not given: an error, one of the model, or none", "error",
+                       choices=("error", "positions", "none"))  # fmt: skip
+    unheard: str = key("choice", "of both: what a link is that has no row, though its sender and its receiver are in others", "none",
+                       choices=("none", "positions"))  # fmt: skip
+    fit: bool = key("truth", "of both: whether exponent and deviation are those that fit the power that was measured; one that is given stays", True)
+    walls: list[list[float]] = key("walls", "walls as [x0, y0, x1, y1], then maybe their loss in dB and their floor", [])
+
+
+@dataclass
+class Event(Row):
+    """`[[event]]`: what happens in the run, to a node, to a link or in an area, once or again and again."""
+
+    name: str = key("text", "what people call it", "")
+    node: str | None = key("node", "the node to which it happens")
+    link: list[str] | None = key("pair", "or the two ends of a link, of which both directions are meant")
+    area: list[float] | None = key("box", "or an area, by its left, lower, right and upper edges", unit="m")
+    floor: int | None = key("whole", "the floor of the area; all where it is not given", low=-20, high=200)
+    at: float | None = key("real", "when it begins", low=0, unit="s")
+    between: list[float] | None = key("span", "in place of that: between which times it begins, drawn by the seed", low=0, unit="s")
+    duration: float | None = key("real", "how long it lasts; to the end of the run where it is not given", name="for", above=0, unit="s")
+    every: float | None = key("real", "it happens again, with this time from one beginning to the next", above=0, unit="s")
+    off: bool | None = key("truth", "whether the node, or each node in the area, has no power, or the link passes nothing; true where no ratio is given")
+    ratio: float | None = key("real", "what links of the node, the link, or links with an end in the area pass at most", low=0, high=1)
+    restart: bool = key("truth", "whether a node that comes back requests its streams again", True)
+
+
+@dataclass
+class Battery(Row):
+    """`[battery]`: what a radio takes, and what batteries have."""
+
+    receive_ma: float | None = key("real", "the current while a radio is on and does not transmit; 18.8 where it is not given", low=0, unit="mA")
+    transmit_ma: float | None = key("real", "the current while it transmits; 17.4 where it is not given", low=0, unit="mA")
+    sleep_ma: float | None = key("real", "the current while it is off; 0 where it is not given", low=0, unit="mA")
+    capacity_mah: dict[str, float] = key("capacities", "the charge by kind of battery, in place of the usual ones; a number holds for `battery`", {},
+                                         above=0, unit="mAh", choices=tuple(CAPACITIES))  # fmt: skip
+
+
+@dataclass
+class Requirement(Row):
+    """`[[requirement]]`: what has to hold, one of share, ratio, years, joined and outage."""
+
+    name: str = key("text", "what people call it, another one for each", REQUIRED)
+    share: float | None = key("real", "the part of the packets that come in time", above=0, high=1)
+    ratio: float | None = key("real", "or the part of the packets that arrive at all", above=0, high=1)
+    years: float | None = key("real", "or how long batteries last", above=0, unit="years")
+    joined: float | None = key("real", "or after how long all nodes are members", above=0, unit="s")
+    outage: float | None = key("real", "or how long nothing may arrive after a failure", above=0, unit="s")
+    streams: list[str] = key("texts", "the streams that it is about; all where neither these nor a tag is given", [])
+    tag: str = key("text", "or the streams with this tag, or of the nodes that have it", "")
+    to: str | list[str] | None = key("to", "the receivers that count; those of each stream where it is not given")
+    deadline: float | None = key("real", "how late a packet may come; that of each stream where it is not given", above=0, unit="s")
+    nodes: str | list[str] | None = key("to", "the nodes: names, a tag, or `battery` for those that are not on mains, which years are of where it is not "
+                                        "given; else all")  # fmt: skip
+    when: str = key("text", "`as planned`, `NAME fails`, `any one node fails` or `any one host fails`", "as planned")
+    at: float | None = key("real", "when the failure is; after a third of the run where it is not given", low=0, unit="s")
+    part: float | None = key("real", "in which part of the draws it has to hold; on average over the draws where it is not given", name="in", above=0, high=1)
+    confidence: float = key("real", "how sure a verdict has to be", 0.95, low=0.5, high=0.9999)
+
+
+@dataclass
+class Search(Row):
+    """`[search]`: what `foldcairn search` may choose; what is not given stays as the plan has it."""
+
+    profile: list[int] | None = key("wholes", "profiles, of which one is chosen", low=1, high=2)
+    sends: list[int] | None = key("wholes", "how often a node may transmit in one flood", low=1, high=4)
+    contend: list[int] | None = key("wholes", "numbers of contention slots, in profile 2", low=0, high=4)
+    interval: list[float] | None = key("reals", "the intervals that streams with a period request, as parts of their periods", above=0, high=1)
+    keep_alive: list[float] | None = key("reals", "keep-alives, in place of that of [plan]; 0 for none", low=0, unit="s")
+    hosts: list[str] | None = key("texts", "the nodes of which one has rank 0")
+    backups: list[str] | None = key("texts", "the nodes of which one has rank 1")
+    relays: list[str] | None = key("texts", "the candidates that may be relays")
+    relays_most: int = key("whole", "how many of them at most are put at a time", 1, low=1, high=8)
+    settings: int = key("whole", "how many settings are tried at most", 200, low=1, high=10_000)

@@ -1,0 +1,288 @@
+"""What is measured of the draws of a plan, for each of its requirements: of each stream the packets that came, of each node its battery's life
+or when it was a member. Tested, not proved.
+
+A draw of a plan is its network with what the seed draws, and the losses that the same seed draws by its ratios. A requirement of shares
+counts packets whose deadline lies in the run, and after a failure those that are put from then on.
+"""
+
+from __future__ import annotations
+
+import contextlib
+import functools
+import warnings
+from collections.abc import Iterator, Mapping, Sequence
+from dataclasses import dataclass, field, replace
+from typing import TYPE_CHECKING
+
+import numpy as np
+from numpy.typing import NDArray
+
+from ..model.receivers import ALL, HOSTS
+from ..model.scenario import Scenario, ScenarioWarning
+from ..plan.model import Requirement, Stream
+from ..plan.words import BATTERY
+from . import counting, membership
+from .cases import Case
+from .counting import Came, Numbers, Places
+
+if TYPE_CHECKING:
+    from ..plan.drawing import Drawer
+    from ..plan.plan import Plan
+
+# For the sums of floats.
+_LITTLE = 1e-9
+# A packet that has no deadline and is put so many frames before the end may still wait then.
+_WAITING_FRAMES = 12
+_RANKS = 4
+# Of each unit its value in a draw, or None, and of how many packets it is.
+Values = dict[str, "tuple[float | None, int]"]
+Truths = NDArray[np.bool_]
+
+
+@dataclass(frozen=True)
+class Task:
+    """What is measured of each draw: the plan in a case, for the requirements with these places. `key` names all that draws depend on, and `base`
+    what of the plan is the same in all cases."""
+
+    plan: Plan
+    case: Case
+    places: tuple[int, ...]
+    key: str = ""
+    base: str = ""
+
+    @property
+    def requirements(self) -> list[Requirement]:
+        """The requirements with these places."""
+        return [self.plan.requirements[place] for place in self.places]
+
+
+def measure(task: Task, seeds: Sequence[int]) -> list[list[Values]]:
+    """What is measured of the draw of each seed: for each requirement the values of its units. In the process of a worker. Raises what
+    `Plan.network` and `program.execute` raise."""
+    return [draw.values() for draw in drawn(task, seeds)]
+
+
+def drawn(task: Task, seeds: Sequence[int], whole: bool = False) -> Iterator[Draw]:
+    """The draws of these seeds; `whole` ones keep what came of all streams. Raises what `Plan.network` raises."""
+    with quiet():
+        drawer = _drawer(task)
+        for seed in seeds:
+            yield Draw(task, drawer.network(seed), seed, whole)
+
+
+# What makes the networks of the plans that came last, by what their cases have in common: a worker gets each of them many times.
+_DRAWERS: dict[str, Drawer] = {}
+_DRAWERS_MOST = 64
+
+
+def _drawer(task: Task) -> Drawer:
+    """What makes the networks of a task."""
+    if not task.base:
+        return task.case.of(task.plan).drawer()
+    key = f"{task.base} {task.case.relay}"
+    found = _DRAWERS.get(key)
+    if found is None:
+        if len(_DRAWERS) >= _DRAWERS_MOST:
+            _DRAWERS.clear()
+        found = _DRAWERS[key] = replace(task.case, failed="").of(task.plan).drawer()
+    return found.with_events([*task.plan.events, task.case.event]) if task.case.failed else found
+
+
+@contextlib.contextmanager
+def quiet() -> Iterator[None]:
+    """Without the warnings of scenarios: no log is made of a draw, so it may be longer than one."""
+    with warnings.catch_warnings():
+        warnings.simplefilter("ignore", ScenarioWarning)
+        yield
+
+
+@dataclass(frozen=True, eq=False)
+class Own:
+    """What came of a stream: of each of its packets when it was `put`; and of each delivery which packet it is `of`, `at` which node, in a round of
+    which `rank`, and by when, in `seconds`."""
+
+    put: Numbers
+    of: Places
+    at: Places
+    rank: Places
+    seconds: Numbers
+
+
+_NO_TIME, _NO_PLACE = np.array([], dtype=np.float64), np.array([], dtype=np.int64)
+_NOTHING = Own(_NO_TIME, _NO_PLACE, _NO_PLACE, _NO_PLACE, _NO_TIME)
+
+
+@dataclass(frozen=True, eq=False)
+class Counted:
+    """The packets of a stream that count: when each was `put`, at how many receivers in time it is to be (`several`), and of each delivery in
+    time which packet it is `of`."""
+
+    put: Numbers
+    of: Places
+    several: int
+
+    @property
+    def share(self) -> float | None:
+        """The part of them that came; None where there is none."""
+        return float(len(self.of) / (len(self.put) * self.several)) if len(self.put) else None
+
+
+@dataclass(frozen=True, eq=False)
+class Draw:
+    """One draw of a case. A `whole` one keeps what came of all streams, also of those that no requirement is about."""
+
+    task: Task
+    network: Scenario
+    seed: int
+    whole: bool = False
+    ids: Mapping[str, int] = field(init=False)
+
+    def __post_init__(self) -> None:
+        object.__setattr__(self, "ids", {name: node for node, name in self.network.labels.items()})
+
+    @functools.cached_property
+    def plan(self) -> Plan:
+        """The plan in this case."""
+        return self.task.case.of(self.task.plan)
+
+    def values(self) -> list[Values]:
+        """The values of all requirements, in their order."""
+        return [self._of(requirement) for requirement in self.task.requirements]
+
+    def _of(self, requirement: Requirement) -> Values:
+        if requirement.joined is not None:
+            return {name: (seconds, 0) for name, seconds in self._named(requirement, self._joined(requirement.joined)).items()}
+        if requirement.years is not None:
+            return {name: (years, 0) for name, years in self._named(requirement, self._years).items()}
+        if requirement.outage is not None:
+            return {stream.name: self.outage(stream, receivers) for stream, receivers in self.units(requirement)}
+        found: Values = {}
+        for stream, receivers in self.units(requirement):
+            counted = self.counted(requirement, stream, receivers)
+            found[stream.name] = counted.share, len(counted.put)
+        return found
+
+    # Streams.
+
+    @functools.cached_property
+    def came(self) -> Came:
+        """What came of this draw, at the receivers of all requirements."""
+        wanted: set[int] = set()
+        for requirement in [*(one for one in self.task.requirements if one.joined is None and one.years is None), *([None] if self.whole else [])]:
+            for _, receivers in self.units(requirement):
+                wanted |= set(self.network.hosts.values()) if receivers is None else receivers
+        return counting.came(self.network, self.seed, nodes=wanted)
+
+    @functools.cached_property
+    def _own(self) -> Mapping[tuple[int, int], Own]:
+        """What came of each stream."""
+        came, found = self.came, {}
+        order, packets = np.argsort(came.stream[came.of], kind="stable"), np.argsort(came.stream, kind="stable")
+        streams = np.arange(len(came.streams) + 1)
+        ends, bounds = np.searchsorted(came.stream[came.of][order], streams), np.searchsorted(came.stream[packets], streams)
+        local = np.empty(len(packets), dtype=np.int64)
+        for place, key in enumerate(came.streams):
+            ours, there = packets[bounds[place] : bounds[place + 1]], order[ends[place] : ends[place + 1]]
+            local[ours] = np.arange(len(ours))
+            found[key] = Own(came.put[ours], local[came.of[there]], came.at[there], came.rank[there], came.seconds[there])
+        return found
+
+    def units(self, requirement: Requirement | None) -> list[tuple[Stream, frozenset[int] | None]]:
+        """The streams that a requirement is about, or all of them, with the nodes that their packets are meant for, or None for whichever host
+        serves; without those that the failed node sends, or that are meant for it alone."""
+        streams = self.plan.streams_of(requirement.streams, requirement.tag) if requirement is not None else list(self.plan.streams.values())
+        found = [(stream, self.receivers(stream, requirement)) for stream in streams if stream.source != self.task.case.failed]
+        return [(stream, receivers) for stream, receivers in found if receivers is None or receivers]
+
+    def receivers(self, stream: Stream, requirement: Requirement | None = None) -> frozenset[int] | None:
+        """The nodes that packets are meant for, or None for whichever host serves; without the source and what failed."""
+        to = stream.to if requirement is None or requirement.to is None else requirement.to
+        if to == HOSTS:
+            return None
+        names = self.ids if to == ALL else [to] if isinstance(to, str) else to
+        return frozenset(self.ids[name] for name in names if name in self.ids and name not in (stream.source, self.task.case.failed))
+
+    def arrived(self, stream: Stream, receivers: frozenset[int] | None) -> tuple[Own, Truths, Truths]:
+        """What came of a stream, which of its packets count, and which of the deliveries are at their receivers."""
+        source = self.ids[stream.source]
+        own = self._own.get((source, stream.number or 0), _NOTHING)
+        ours = np.ones(len(own.put), dtype=bool)
+        if receivers is not None:
+            return own, ours, np.isin(own.at, list(receivers))
+        hosts = np.array([self.network.hosts.get(rank, -1) for rank in range(_RANKS)])
+        # What its source hosts itself is meant for nobody.
+        ours[own.of[hosts[own.rank] == source]] = False
+        return own, ours, (own.at == hosts[own.rank]) & ours[own.of]
+
+    def counted(self, requirement: Requirement, stream: Stream, receivers: frozenset[int] | None) -> Counted:
+        """The packets that count, and which came in time, or at all."""
+        own, ours, arrived = self.arrived(stream, receivers)
+        deadline = self._deadline(requirement, stream)
+        due = ours & (own.put <= self.latest(deadline)) & (own.put >= self.task.case.seconds)
+        arrived &= due[own.of]
+        if deadline is not None:
+            arrived &= own.seconds - own.put[own.of] <= deadline + _LITTLE
+        places = np.cumsum(due) - 1
+        return Counted(own.put[due], places[own.of[arrived]], 1 if receivers is None else len(receivers))
+
+    def latest(self, deadline: float | None) -> float:
+        """Up to when packets with a deadline, or without one, are put that count."""
+        return float(self.network.seconds) - (_WAITING_FRAMES * self.network.frame_seconds if deadline is None else deadline) + _LITTLE
+
+    @staticmethod
+    def _deadline(requirement: Requirement, stream: Stream) -> float | None:
+        """How late a packet may be, or None where it only has to arrive."""
+        return None if requirement.share is None else stream.deadline if requirement.deadline is None else requirement.deadline
+
+    def outage(self, stream: Stream, receivers: frozenset[int] | None) -> tuple[float | None, int]:
+        """How long nothing arrived after the failure, from it or from the first packet that was put then, to the first delivery; at several
+        receivers the longest."""
+        failure = self.task.case.seconds
+        own, ours, arrived = self.arrived(stream, receivers)
+        put = own.put[ours & (own.put >= failure)]
+        if not len(put):
+            return None, 0
+        start = max(failure, float(put.min()))
+        after = arrived & (own.seconds >= start)
+        firsts = [_first(own.seconds[after & (own.at == node)], self.network) for node in receivers or ()]
+        return max(firsts, default=_first(own.seconds[after], self.network)) - start, 0
+
+    # Nodes.
+
+    def _named(self, requirement: Requirement, values: Mapping[int, float]) -> dict[str, float]:
+        """The values of the nodes that a requirement is about."""
+        return {name: values[self.ids[name]] for name in nodes_of(self.plan, requirement) if name != self.task.case.failed}
+
+    def _joined(self, wanted: float) -> dict[int, float]:
+        if self.task.case.failed:
+            return membership.back_seconds(self.network, self.seed, wanted, self.task.case.seconds)
+        return membership.joined_seconds(self.network, self.seed, wanted)
+
+    @functools.cached_property
+    def _years(self) -> dict[int, float]:
+        """How many years the battery of each node lasts."""
+        capacities = {self.ids[name]: self.plan.capacity_mah(name) for name in self.ids}
+        battery = self.plan.battery
+        currents = {name: getattr(battery, name) for name in ("receive_ma", "transmit_ma", "sleep_ma")}
+        words = {name: value for name, value in currents.items() if value is not None}
+        return membership.years(self.network, self.seed, self.came.cost, capacities, words)
+
+
+def nodes_of(plan: Plan, requirement: Requirement) -> list[str]:
+    """The nodes that a requirement is about: for the years of batteries those that have one."""
+    given = requirement.nodes
+    if given is None:
+        given = BATTERY if requirement.years is not None else ALL
+    there = [name for name, node in plan.nodes.items() if not node.candidate]
+    if isinstance(given, list):
+        chosen = given
+    else:
+        chosen = there if given in (ALL, BATTERY) else [given] if given in plan.nodes else plan.tagged(given)
+    if requirement.years is None:
+        return [name for name in chosen if name in there]
+    return [name for name in chosen if name in there and not plan.nodes[name].is_on_mains]
+
+
+def _first(seconds: Numbers, network: Scenario) -> float:
+    """The first of some times, or the end of the run."""
+    return float(seconds.min()) if len(seconds) else float(network.seconds)

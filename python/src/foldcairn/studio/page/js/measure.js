@@ -1,0 +1,247 @@
+// What is measured of one draw of a plan: for the table of streams, for the nodes, and for each requirement, as foldcairn.requirements
+// measures it. It runs in a worker. Tested, not proved.
+import { networkOf, nodesOf } from "./network.js";
+import { cameOf, streamKey } from "./outcome.js";
+
+/** @typedef {import("./types.js").Plan} Plan */
+/** @typedef {import("./types.js").Row} Row */
+/** @typedef {import("./network.js").Network} Network */
+/** @typedef {import("./network.js").Prepared} Prepared */
+/** @typedef {import("./outcome.js").Came} Came */
+/** @typedef {{ failed: string, seconds: number }} Case what fails, and when; nobody where it is empty */
+/** @typedef {Record<string, [number | null, number]>} Values of each unit its value, or null, and of how many packets it is */
+/** @typedef {(words: string[], input: string) => Uint8Array} Run a command of the programs */
+/**
+ * @typedef {{ seed: number, streams: Values, latencies: Record<string, number[]>, years: Record<string, number>, joined: Record<string, number>,
+ *   requirements: Values[] }} Draw
+ */
+
+const LITTLE = 1e-9, WAITING_FRAMES = 12, HOURS_A_YEAR = 24 * 365.25;
+const START_PART = 0.1, START_FRAMES = 36, WATCHED = 4, WATCHED_FRAMES = 24;
+
+/** The plan in a case.
+ * @param {Plan} plan @param {Case} one @param {Row} event an event with its defaults @returns {Plan} */
+export function planIn(plan, one, event) {
+  return one.failed ? { ...plan, event: [...plan.event, { ...event, node: one.failed, at: one.seconds, off: true }] } : plan;
+}
+
+/** The streams that a requirement is about.
+ * @param {Plan} plan @param {Row} requirement @returns {Row[]} */
+export function streamsOf(plan, requirement) {
+  if (requirement.streams.length) return plan.stream.filter((one) => requirement.streams.includes(one.name));
+  const tagged = new Set(plan.node.filter((node) => node.tags.includes(requirement.tag)).map((node) => node.name));
+  return plan.stream.filter((one) => !requirement.tag || one.tags.includes(requirement.tag) || tagged.has(one.from));
+}
+
+/** The nodes that a requirement is about.
+ * @param {Plan} plan @param {Row} requirement @returns {Row[]} */
+export function nodesFor(plan, requirement) {
+  const given = requirement.nodes ?? (requirement.years !== null ? "battery" : "all");
+  const there = nodesOf(plan), one = there.find((node) => node.name === given);
+  const chosen = Array.isArray(given) ? there.filter((node) => given.includes(node.name))
+    : given === "all" || given === "battery" ? there : one ? [one] : there.filter((node) => node.tags.includes(given));
+  return requirement.years === null ? chosen : chosen.filter((node) => node.powered !== "mains");
+}
+
+/** The charge of a node's battery in mAh, or null.
+ * @param {Plan} plan @param {Row} node @param {Record<string, number>} capacities */
+export function capacityOf(plan, node, capacities) {
+  if (node.powered === "mains") return null;
+  return typeof node.powered === "number" ? node.powered : { ...capacities, ...plan.battery.capacity_mah }[node.powered] ?? null;
+}
+
+/** One draw, of which what is needed is measured once. */
+class Drawn {
+  /** @param {Prepared} prepared @param {number} seed @param {Case} one @param {Run} run @param {Record<string, number>} capacities
+   * @param {Row[]} requirements */
+  constructor(prepared, seed, one, run, capacities, requirements) {
+    this.prepared = prepared;
+    this.plan = prepared.plan;
+    this.seed = seed;
+    this.case = one;
+    this.run = run;
+    this.capacities = capacities;
+    this.network = networkOf(prepared, seed);
+    this.nodes = new Set([...this.network.ids.values()]);
+    this.came = this.cameIn(this.network, this.wanted(requirements));
+    /** @type {Map<number, number> | undefined} */
+    this.lives = undefined;
+    /** @type {number[][]} the deliveries of each stream */
+    this.byStream = [];
+    const streamAt = new Int32Array(this.came.put.length);
+    for (const [place, packets] of [...this.came.streams.values()].entries()) for (const packet of packets) streamAt[packet] = place;
+    this.places = new Map([...this.came.streams.keys()].map((key, place) => [key, place]));
+    this.came.of.forEach((packet, place) => (this.byStream[streamAt[packet]] ??= []).push(place));
+  }
+
+  /** The nodes whose deliveries count.
+   * @param {Row[]} requirements */
+  wanted(requirements) {
+    const found = new Set(this.network.hosts.values());
+    const asked = requirements.filter((one) => one.to !== null && one.to !== "hosts").map((one) => one.to);
+    for (const stream of this.plan.stream) for (const to of [null, ...asked]) for (const node of this.receivers(stream, to) ?? []) found.add(node);
+    return found;
+  }
+
+  /** @param {Network} network @param {Set<number>} nodes */
+  cameIn(network, nodes) {
+    return cameOf(network, this.run(["outcome", String(this.seed)], network.text), this.plan.plan.profile, nodes);
+  }
+
+  /** The receivers of a stream, or null for whichever host serves.
+   * @param {Row} stream @param {any} to @returns {Set<number> | null} */
+  receivers(stream, to) {
+    const given = to ?? stream.to;
+    if (given === "hosts") return null;
+    const names = given === "all" ? [...this.network.ids.keys()] : [given].flat();
+    return new Set(names.filter((name) => name !== stream.from && name !== this.case.failed).map((name) => this.network.ids.get(name) ?? -1));
+  }
+
+  /** The packets of a stream, and its deliveries at its receivers.
+   * @param {Row} stream @param {Set<number> | null} receivers */
+  arrived(stream, receivers) {
+    const { came, network } = this, source = network.ids.get(stream.from) ?? -1;
+    const ours = new Set(came.streams.get(streamKey(source, stream.stream)) ?? []);
+    const host = [0, 1, 2, 3].map((rank) => network.hosts.get(rank) ?? -1);
+    const deliveries = [];
+    for (const place of this.byStream[this.places.get(streamKey(source, stream.stream)) ?? -1] ?? []) {
+      // What its source hosts itself is meant for nobody.
+      if (receivers === null && host[came.rank[place]] === source) ours.delete(came.of[place]);
+      else if (receivers ? receivers.has(came.at[place]) : came.at[place] === host[came.rank[place]]) deliveries.push(place);
+    }
+    return { ours, deliveries };
+  }
+
+  /** The part of the packets that came in time, or at all without a deadline, and the latencies.
+   * @param {Row} stream @param {Set<number> | null} receivers @param {number | null} deadline */
+  share(stream, receivers, deadline) {
+    const { came, network } = this, run = network.frames * network.frame;
+    const { ours, deliveries } = this.arrived(stream, receivers);
+    const latest = run - (deadline ?? WAITING_FRAMES * network.frame) + LITTLE;
+    const due = new Set([...ours].filter((packet) => came.put[packet] <= latest && came.put[packet] >= this.case.seconds));
+    const late = deliveries.filter((place) => due.has(came.of[place])).map((place) => came.seconds[place] - came.put[came.of[place]]);
+    const arrived = late.filter((seconds) => deadline === null || seconds <= deadline + LITTLE).length;
+    return { value: due.size ? arrived / (due.size * (receivers ? receivers.size : 1)) : null, packets: due.size, latencies: late };
+  }
+
+  /** How long nothing arrived after the failure.
+   * @param {Row} stream @param {Set<number> | null} receivers @returns {[number | null, number]} */
+  outage(stream, receivers) {
+    const { came, network } = this, failure = this.case.seconds;
+    const { ours, deliveries } = this.arrived(stream, receivers);
+    const puts = [...ours].map((packet) => came.put[packet]).filter((seconds) => seconds >= failure);
+    if (!puts.length) return [null, 0];
+    const start = Math.max(failure, puts.reduce((least, one) => Math.min(least, one), Infinity)), end = network.frames * network.frame;
+    const after = deliveries.filter((place) => came.seconds[place] >= start);
+    const first = (/** @type {number[]} */ places) => places.reduce((least, place) => Math.min(least, came.seconds[place]), Infinity);
+    const firsts = receivers ? [...receivers].map((node) => first(after.filter((place) => came.at[place] === node))) : [first(after)];
+    return [Math.max(...firsts.map((one) => (one === Infinity ? end : one))) - start, 0];
+  }
+
+  /** The first frames of the run, and what radios cost in them.
+   * @param {number} count */
+  begun(count) {
+    const frames = Math.min(count, this.network.frames);
+    const made = networkOf({ ...this.prepared, frames }, this.seed);
+    return { network: made, costs: this.cameIn(made, new Set()).costs };
+  }
+
+  /** By when each node was a member, in seconds after it was switched on first.
+   * @param {number} wanted @returns {Map<number, number>} */
+  joined(wanted) {
+    const { network } = this, firsts = new Map();
+    for (const line of network.script) if (line.kind === "on" && !firsts.has(line.node)) firsts.set(line.node, line.frame);
+    const count = Math.max(0, ...firsts.values()) + Math.max(WATCHED_FRAMES, WATCHED * Math.ceil(wanted / network.frame));
+    const { costs } = this.begun(count);
+    return new Map([...this.nodes].map((node) => [node, firsts.has(node) ? (costs.get(node)?.scanned ?? 0) * network.frame : Infinity]));
+  }
+
+  /** How long each node had power, transmitted and was on, in seconds.
+   * @param {Network} network @param {Came["costs"]} costs */
+  spent(network, costs) {
+    const powered = new Map(), since = new Map();
+    const add = (/** @type {number} */ node, /** @type {number} */ end) => powered.set(
+      node, (powered.get(node) ?? 0) + (end - since.get(node)) * network.frame,
+    );
+    for (const line of network.script) {
+      if (line.kind === "on" && !since.has(line.node)) since.set(line.node, line.frame);
+      else if (line.kind === "off" && since.has(line.node)) {
+        add(line.node, line.frame);
+        since.delete(line.node);
+      }
+    }
+    for (const node of since.keys()) add(node, network.frames);
+    return new Map([...costs].map(([node, cost]) => [node, [powered.get(node) ?? 0, cost.transmit, cost.on + cost.scanned * network.frame]]));
+  }
+
+  /** How many years the battery of each node lasts, if all its time is as that after its start.
+   * @returns {Map<number, number>} */
+  years() {
+    const { network, plan } = this;
+    const count = Math.min(Math.floor(network.frames / 2), Math.max(START_FRAMES, Math.floor(START_PART * network.frames)));
+    const early = count ? this.begun(count) : null;
+    const whole = this.spent(network, this.came.costs), start = early ? this.spent(early.network, early.costs) : new Map();
+    const { receive_ma: receive, transmit_ma: transmit, sleep_ma: sleep } = plan.battery;
+    const capacities = new Map(plan.node.map((node) => [network.ids.get(node.name) ?? -1, capacityOf(plan, node, this.capacities)]));
+    return new Map([...whole].map(([node, [allPowered, allSent, allOn]]) => {
+      const [powered, sent, on] = (start.get(node) ?? [0, 0, 0]).map(
+        (/** @type {number} */ one, /** @type {number} */ place) => [allPowered, allSent, allOn][place] - one
+      );
+      const current = (sent * (transmit ?? 17.4) + Math.max(0, on - sent) * (receive ?? 18.8) + (powered - on) * (sleep ?? 0)) / powered;
+      const capacity = capacities.get(node) ?? null;
+      return [node, capacity !== null && current > 0 ? capacity / current / HOURS_A_YEAR : Infinity];
+    }));
+  }
+
+  /** @param {Row} requirement @returns {Values} */
+  values(requirement) {
+    const named = (
+      /** @type {Map<number, number>} */ values
+    ) => Object.fromEntries(nodesFor(this.plan, requirement).filter((node) => node.name !== this.case.failed)
+      .map((node) => [node.name, /** @type {[number, number]} */ ([values.get(this.network.ids.get(node.name) ?? -1) ?? Infinity, 0])]));
+    if (requirement.joined !== null) return named(this.joined(requirement.joined));
+    if (requirement.years !== null) return named((this.lives ??= this.years()));
+    /** @type {Values} */
+    const found = {};
+    for (const stream of streamsOf(this.plan, requirement)) {
+      const receivers = this.receivers(stream, requirement.to);
+      if (stream.from === this.case.failed || (receivers && !receivers.size)) continue;
+      if (requirement.outage !== null) found[stream.name] = this.outage(stream, receivers);
+      else {
+        const { value, packets } = this.share(stream, receivers, requirement.share === null ? null : requirement.deadline ?? stream.deadline);
+        found[stream.name] = [value, packets];
+      }
+    }
+    return found;
+  }
+}
+
+/**
+ * What is measured of a seed in a case, for these requirements.
+ * @param {Prepared} prepared of the plan in the case
+ * @param {number} seed
+ * @param {Case} one
+ * @param {Row[]} requirements
+ * @param {Run} run
+ * @param {Record<string, number>} capacities
+ * @returns {Draw}
+ */
+export function drawnOf(prepared, seed, one, requirements, run, capacities) {
+  const drawn = new Drawn(prepared, seed, one, run, capacities, requirements);
+  /** @type {Draw} */
+  const found = { seed, streams: {}, latencies: {}, years: {}, joined: {}, requirements: [] };
+  if (!one.failed) {
+    for (const stream of prepared.plan.stream) {
+      const { value, packets, latencies } = drawn.share(stream, drawn.receivers(stream, null), stream.deadline);
+      found.streams[stream.name] = [value, packets];
+      found.latencies[stream.name] = latencies;
+    }
+    drawn.lives = drawn.years();
+    for (const [name, id] of drawn.network.ids) {
+      found.years[name] = drawn.lives.get(id) ?? Infinity;
+      found.joined[name] = (drawn.came.costs.get(id)?.scanned ?? 0) * drawn.network.frame;
+    }
+  }
+  found.requirements = requirements.map((requirement) => drawn.values(requirement));
+  return found;
+}
