@@ -18,9 +18,11 @@ from browser import Browser
 from gate import pytest_configure, pytest_sessionfinish, pytest_terminal_summary
 from hypothesis import HealthCheck, settings
 from measured import pytest_collection, pytest_runtestloop
+from studio_page import page, window
 
 __all__ = [
-    "EXAMPLES", "REPOSITORY", "pytest_collection", "pytest_configure", "pytest_runtestloop", "pytest_sessionfinish", "pytest_terminal_summary",
+    "EXAMPLES", "REPOSITORY", "page", "pytest_collection", "pytest_configure", "pytest_runtestloop", "pytest_sessionfinish",
+    "pytest_terminal_summary", "window",
 ]  # fmt: skip
 
 REPOSITORY = Path(__file__).resolve().parents[2]
@@ -55,7 +57,7 @@ def _quiet() -> None:
 def _threads(request: pytest.FixtureRequest, monkeypatch: pytest.MonkeyPatch) -> None:
     """Threads where no executor is given, since a process for each processor costs more than most tests; a test with the mark
     `processes` has two processes."""
-    from foldcairn import executors
+    from foldcairn.many import executors
 
     if request.node.get_closest_marker("processes") is None:
         monkeypatch.setattr(executors, "ProcessPoolExecutor", lambda jobs, **_: ThreadPoolExecutor(2))
@@ -79,7 +81,7 @@ def fake(tmp_path: Path) -> Callable[[str], Path]:
 @pytest.fixture
 def undrawn(monkeypatch: pytest.MonkeyPatch) -> None:
     """Pages whose pictures are made and not drawn, which takes most of the time of a page: for tests of their words."""
-    from foldcairn import style
+    from foldcairn.draw import style
 
     monkeypatch.setattr(style, "rendered", lambda figure, kind: b"<svg/>")
 
@@ -103,7 +105,7 @@ def failover_page(page_given: dict[str, object]) -> str:
     """The page of the worked failover with all of that, which is made once."""
     from networks import FAILOVER, log_of
 
-    from foldcairn import page
+    from foldcairn.pages import page
 
     return page.text(log_of(FAILOVER), **page_given)
 

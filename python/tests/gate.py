@@ -14,7 +14,7 @@ import pytest
 # Of this process, and of what it had started before the tests: a script that installs packages and then becomes this process.
 _BEFORE = os.times()
 # How many seconds of processor time all tests may take, on a machine that does nothing else.
-MOST = 180
+MOST = 320
 
 
 def pytest_configure(config: pytest.Config) -> None:

@@ -8,7 +8,7 @@ from __future__ import annotations
 
 from functools import cache
 
-from foldcairn import results
+from foldcairn.runs import results
 
 SECOND = 64_000_000
 # The whole of a window; and of one in which the node transmits twice, the last time in step k, with a packet of n bytes.

@@ -6,7 +6,7 @@ import random
 
 from hypothesis import strategies as st
 
-from foldcairn.scenario import Capture, Cut, Leave, Loss, Off, On, Put, Rate, Scenario, Stream, grid
+from foldcairn.model.scenario import Capture, Cut, Leave, Loss, Off, On, Put, Rate, Scenario, Stream, grid
 
 
 def planned_grid() -> Scenario:

@@ -8,8 +8,10 @@ import pandas as pd
 import pytest
 from networks import FAILOVER, LINE
 
-from foldcairn import answers, planning, radio, results, rounds, timing
-from foldcairn.scenario import Scenario
+from foldcairn import planning
+from foldcairn.answers import radio, rounds, schema, timing
+from foldcairn.model.scenario import Scenario
+from foldcairn.runs import results
 
 EMPTY = "frames 1\nsends 1\nnode 1 0\nnode 2 0\nhost 0 1\n"
 
@@ -49,7 +51,7 @@ def test_ids_and_counts_are_int64_also_without_rows(full: dict[str, pd.DataFrame
         for name, table in tables.items():
             for column, dtype in types(table).items():
                 assert dtype in ("int64", "float64", "bool", "category", "object"), (name, column)
-                assert dtype == "int64" or dtype == "bool" or column not in answers.WHOLE, (name, column, dtype)
+                assert dtype == "int64" or dtype == "bool" or column not in schema.WHOLE, (name, column, dtype)
                 assert dtype == "float64" or not column.endswith("_seconds"), (name, column, dtype)
 
 

@@ -11,9 +11,14 @@ import pandas
 import pytest
 from networks import LINE, log_of
 
-from foldcairn import arguments, export, losses, page, planning, plot, program, results, running, tables
-from foldcairn.arguments import ArgumentError
-from foldcairn.scenario import Put, Scenario, ScenarioError
+from foldcairn import planning
+from foldcairn.common import arguments
+from foldcairn.common.arguments import ArgumentError
+from foldcairn.draw import plot
+from foldcairn.model import tables
+from foldcairn.model.scenario import Put, Scenario, ScenarioError
+from foldcairn.pages import export, page
+from foldcairn.runs import losses, program, results, running
 
 
 @pytest.fixture(scope="module")
@@ -79,7 +84,7 @@ def test_payloads() -> None:
         (lambda: two().on(1, seconds=math.inf), "`seconds` is inf, and has to be a number"),
         (lambda: two().node(3, ppm=True), "True, the drift, is a whole number from -20 to 20 ppm"),
         (lambda: two().every(math.nan, 2), "`seconds` is nan, and has to be a number above 0"),
-        (lambda: two().every(1e-9, 2), "are 80,000,000,000, and a scenario has at most 20,000 script lines; write at least 0.004 s"),
+        (lambda: two().every(1e-9, 2), "are 80,000,000,000, and a network has at most 262,144 script lines; write at least 0.000305176 s"),
         (lambda: two().every(1, 2, start=-1), "`start` is -1, and has to be a number of at least 0"),
         (lambda: two().every(1, 2, until=math.nan), "`until` is nan"),
         (lambda: two(prr={(1, 2): math.nan}), "`link 1 2`: `prr` is nan, and has to be a number from 0 to 1"),
@@ -138,7 +143,7 @@ def test_the_path_of_a_file_is_no_text(tmp_path: Path) -> None:
     assert program.execute(["run"], path) == program.execute(["run"], LINE)
 
 
-_NO_LOG = ("bounds", "capacity", "importance", "sample", "summary")
+_NO_LOG = ("bounds", "capacity", "failures", "importance", "relays", "sample", "search", "summary", "verdicts")
 
 
 @pytest.mark.parametrize("call", [page.text, page.write, *(getattr(planning, name) for name in planning.__all__ if name not in _NO_LOG)])

@@ -12,11 +12,14 @@ from conftest import EXAMPLES, REPOSITORY
 from networks import FAILOVER, log_of
 from scenarios import planned_grid
 
-from foldcairn import bounds, losses, planning, program, report, results
-from foldcairn.arguments import ArgumentError
-from foldcairn.bounds import Bound, failover_frames, latency_frames
-from foldcairn.events import Off, On, Put
-from foldcairn.scenario import Scenario, line
+from foldcairn import planning
+from foldcairn.answers import bounds
+from foldcairn.answers.bounds import Bound, failover_frames, latency_frames
+from foldcairn.common.arguments import ArgumentError
+from foldcairn.model.events import Off, On, Put
+from foldcairn.model.scenario import Scenario, line
+from foldcairn.pages import report
+from foldcairn.runs import losses, program, results
 
 PAGE = (REPOSITORY / "docs" / "BOUNDS.md").read_text(encoding="utf-8")
 WORKED = {name: Scenario.read(text) for name, text in re.findall(r"^```text (\w+)\.scenario\n(.*?)^```", PAGE, re.DOTALL | re.MULTILINE)}
@@ -56,10 +59,10 @@ def test_the_numbers_of_the_page() -> None:
 
 def test_the_examples_of_the_page() -> None:
     first = WORKED["first"]
-    assert [(one.holds, one.begins) for one in (only(first, "first round"), only(first, "membership"))] == [("yes", 0), ("yes", 0)]
+    assert [(one.holds, one.begins) for one in (only(first, "first round"), only(first, "membership"))] == [("yes", 0), ("not checked", 0)]
     assert "to the end of the run" in only(first, "membership").needs
     missed = WORKED["missed"]
-    assert only(missed, "scanning").holds == "yes" and "up to frame 9 (36 s)" in only(missed, "membership").needs
+    assert only(missed, "scanning").holds == "not checked" and "up to frame 9 (36 s)" in only(missed, "membership").needs
     assert only(missed.copy().lose(21, 0, 0, 1, 2), "scanning").holds == "no"
     slow = found(WORKED["slow"], "latency")
     assert [(one.packets, one.frames, one.holds) for one in slow] == [(1, 4, "not known"), (2, 5, "not known"), (4, 8, "not known")]
@@ -68,7 +71,7 @@ def test_the_examples_of_the_page() -> None:
     failover, takeover = only(backup, "failover"), only(backup, "takeover")
     # Node 1 goes off in frame 6 and its round of frame 9 falls out; node 2 hosts in frame 27.
     assert failover.holds == "yes" and failover.begins + failover.frames == 27
-    assert takeover.holds == "yes" and takeover.begins + takeover.frames == 27 and 9 + takeover.frames == 27
+    assert takeover.holds == "not checked" and takeover.begins + takeover.frames == 27 and 9 + takeover.frames == 27
     six = only(WORKED["six"], "contention")
     assert six.wrong == ("6 nodes ask for slots, and more than two that ask at once need not part",)
     assert {one.holds for one in found(WORKED["six"], "latency")} == {"no"}
@@ -179,7 +182,7 @@ def test_what_is_not_in_the_way() -> None:
     """Restarts are no failures of other boots, and a lossless ratio loses nothing."""
     assert [one.holds for one in found(network().off(1, frame=10).on(1, frame=10), "first round")] == ["yes", "yes"]
     made = network().ratio(1, 2, 1.0, frame=7)
-    assert only(made, "scanning").holds == "yes" and only(made, "membership").holds == "yes"
+    assert only(made, "scanning").holds == only(made, "membership").holds == "not checked"
     assert only(network(hosts=3).off(1, 3, frame=10), "failover").frames == 33
     # Ids that are equal modulo 16 part with three slots.
     for slots, other, frames in [(1, 3, 120), (2, 3, 112), (3, 3, 120), (3, 18, 120), (4, 3, 96)]:
@@ -189,7 +192,7 @@ def test_what_is_not_in_the_way() -> None:
     early = network()
     for frame in range(5):
         early.cut(frame, 0, 0, 2)
-    assert only(early, "scanning").holds == "yes"
+    assert only(early, "scanning").holds == "not checked"
 
 
 # Against runs. Each bound is tried on 200 random scenarios.
@@ -254,7 +257,7 @@ def test_first_rounds_members_and_latencies_against_runs() -> None:
                 frame += chance.randint(1, 14)
         delivered, scanned = run(made)
         by = {one.bound: one for one in bounds.of(made)}
-        assert by["first round"].holds == "yes" and by["membership"].holds == "yes"
+        assert by["first round"].holds == "yes" and by["membership"].holds == "not checked"
         first = by["first round"].begins + by["first round"].frames
         assert scanned[made.hosts[0]] == 5
         for node in sources:
@@ -301,7 +304,7 @@ def test_rounds_with_losses_against_runs() -> None:
                 made.cut(frame, chance.randint(0, 3), chance.randint(0, 2), chance.choice(sorted(made.nodes)))
                 made.lose(frame, chance.randint(0, 2), chance.randint(0, 3), *chance.choice(links))
         made.cuts, made.losses = sorted(set(made.cuts)), sorted(set(made.losses))
-        assert only(made, "scanning").holds == "yes"
+        assert only(made, "scanning").holds == "not checked"
         _, scanned = run(made)
         assert scanned[made.hosts[0]] == 5
         slack += [4 * len(rounds) - (scanned[node] - (first + 1 - up[node])) for node in made.nodes if node != made.hosts[0]]
@@ -361,7 +364,7 @@ def test_takeovers_against_runs() -> None:
             made.stream(node, chance.randint(5, 20), frame=first).every(chance.randint(5, 30), node, start=float(first * made.frame_seconds))
         fails = chance.randint(first + 1, 40)
         made.off(made.hosts[0], frame=fails)
-        assert only(made, "takeover").holds == "yes" and only(made, "takeover").begins == fails + 3
+        assert only(made, "takeover").holds == "not checked" and only(made, "takeover").begins == fails + 3
         _, scanned = run(made)
         for node in set(made.nodes) - {made.hosts[0]}:
             # From the frame after the round that fell out on: the other host up to its first round, the others in it too.
@@ -443,7 +446,7 @@ class Ran:
 
     def scanned(self, frames: int) -> dict[int, int]:
         """In how many of so many frames each node scans."""
-        return run(losses._beginning(self.text, min(frames, self.frames)))[1]
+        return run(losses.beginning(self.text, min(frames, self.frames)))[1]
 
     def keeps(self, row: Bound) -> None:
         """Fails where the run breaks the bound."""
@@ -487,11 +490,14 @@ def test_what_holds_is_kept_by_the_run() -> None:
         ran = Ran(network, seed)
         for row in bounds.of(network):
             counts[row.bound, row.holds] += 1
-            if row.holds == "yes":
+            if row.holds in ("yes", "not checked"):
                 ran.keeps(row)
     # Each is said to hold of some networks, and not of others.
-    for bound, least in (("first round", 90), ("membership", 30), ("scanning", 15), ("failover", 10), ("takeover", 3)):
-        assert counts[bound, "yes"] >= least and counts[bound, "no"] >= 3
+    for bound, least in (("first round", 90), ("failover", 10)):
+        assert counts[bound, "yes"] >= least and counts[bound, "no"] >= 3 and not counts[bound, "not checked"]
+    # Of the others nothing is decided, and what is in the way is all that is in the way.
+    for bound, least in (("membership", 30), ("scanning", 15), ("takeover", 3)):
+        assert counts[bound, "not checked"] >= least and counts[bound, "no"] >= 3 and not counts[bound, "yes"]
     assert not counts["latency", "yes"] and not counts["contention", "yes"] and counts["latency", "not known"] and counts["contention", "not known"]
 
 

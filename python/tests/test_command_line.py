@@ -15,9 +15,12 @@ import pytest
 
 import foldcairn
 from conftest import EXAMPLES, REPOSITORY
-from foldcairn import commands, losses, planning, program, results, sweep
+from foldcairn import planning
 from foldcairn.__main__ import _drawing, main
-from foldcairn.scenario import Scenario
+from foldcairn.cli import commands
+from foldcairn.many import sweep
+from foldcairn.model.scenario import Scenario
+from foldcairn.runs import losses, program, results
 
 LINE = EXAMPLES / "packets-along-a-line.scenario"
 
@@ -42,7 +45,7 @@ def test_help(capsys):
 
 def test_a_python_without_the_packages():
     """Without its site packages, as another Python on the PATH may be."""
-    source = Path(program.__file__).parents[1]
+    source = Path(program.__file__).parents[2]
     code = f"import runpy, sys; sys.path.insert(0, {str(source)!r}); runpy.run_module('foldcairn', run_name='__main__')"
     ended = subprocess.run([sys.executable, "-S", "-I", "-c", code], capture_output=True, text=True)
     assert ended.returncode == 1

@@ -7,9 +7,11 @@ from pathlib import Path
 
 import pytest
 
-from foldcairn import page, planning, results
-from foldcairn.arguments import ArgumentError
-from foldcairn.scenario import Off, On, Put, Scenario, ScenarioError, ScenarioWarning, Stream
+from foldcairn import planning
+from foldcairn.common.arguments import ArgumentError
+from foldcairn.model.scenario import Off, On, Put, Scenario, ScenarioError, ScenarioWarning, Stream
+from foldcairn.pages import page
+from foldcairn.runs import results
 from networks import LINE, log_of
 
 

@@ -22,8 +22,9 @@ import pytest
 from conftest import REPOSITORY
 from networks import LINE
 
-from foldcairn import ending, executors, seeds, sweep
-from foldcairn.scenario import Scenario
+from foldcairn.common import ending
+from foldcairn.many import executors, seeds, sweep
+from foldcairn.model.scenario import Scenario
 
 NETWORK = REPOSITORY / "tests" / "worked" / "three-in-a-line.network"
 # For how many seconds a test waits at most, also where others use all processors.
@@ -219,7 +220,7 @@ def started(tmp_path: Path) -> Callable[..., subprocess.Popen[str]]:
 
 _KILLED_WORKER = """
 import os, signal
-from foldcairn import executors, seeds, sweep
+from foldcairn.many import executors, seeds, sweep
 from foldcairn.scenario import Scenario
 
 def measured(scenario, piece):

@@ -15,9 +15,10 @@ from hypothesis import given, strategies as st
 from networks import CONTENDERS, FAILOVER, LINE, log_of
 
 from conftest import EXAMPLES
-from foldcairn import export, packets, results
 from foldcairn.__main__ import main
-from foldcairn.scenario import Scenario, grid
+from foldcairn.model.scenario import Scenario, grid
+from foldcairn.pages import export
+from foldcairn.runs import packets, results
 
 needs_tshark = pytest.mark.skipif(
     shutil.which("tshark") is None, reason="tshark is missing; tools/setup-python.sh --optional installs it (apt-get install tshark)"

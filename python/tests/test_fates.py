@@ -11,9 +11,12 @@ from conftest import REPOSITORY
 from networks import FAILOVER, LINE, log_of
 from test_outcome import small_network
 
-from foldcairn import columns, delivery, fates, losses, outcome, planning, plot, program, results
-from foldcairn.arguments import ArgumentError
-from foldcairn.scenario import Scenario
+from foldcairn import outcome, planning
+from foldcairn.answers import arrivals, fates
+from foldcairn.common.arguments import ArgumentError
+from foldcairn.draw import plot
+from foldcairn.model.scenario import Scenario
+from foldcairn.runs import columns, losses, program, results
 
 THREE = REPOSITORY / "tests" / "worked" / "three-in-a-line.network"
 NONE = (-1, -1)
@@ -71,13 +74,13 @@ def test_the_program_says_of_each_packet_what_the_log_says(pairs) -> None:
 
 def test_the_scenarios_have_packets_of_every_fate(pairs) -> None:
     met = pd.concat([planning.packets(log)["fate"] for _, _, log in pairs[::3]]).astype(str).value_counts()
-    assert set(met.index) == set(delivery.FATES) and met.min() >= 5
+    assert set(met.index) == set(fates.FATES) and met.min() >= 5
 
 
 def test_what_a_planner_gets_is_the_same_without_the_program_of_fates(pairs, monkeypatch) -> None:
     _, _, log = pairs[0]
     asked = planning.packets(log)
-    monkeypatch.setattr(fates, "_can_be_asked", lambda: False)
+    monkeypatch.setattr(arrivals, "_can_be_asked", lambda: False)
     monkeypatch.setattr(results, "fates_of", None)
     pd.testing.assert_frame_equal(planning.packets(replace(log)), asked)
 

@@ -10,8 +10,9 @@ from hypothesis import given, settings
 from hypothesis import strategies as st
 
 from conftest import EXAMPLES
-from foldcairn import faults, program
-from foldcairn.scenario import Scenario, ScenarioError
+from foldcairn.model import faults
+from foldcairn.model.scenario import Scenario, ScenarioError
+from foldcairn.runs import program
 
 HEAD = "frames 12\nsends 2\nnode 1 0\nnode 2 0\nhost 0 1\n"
 # The last line of a text, below HEAD; the kind of fault; what its explanation says.
@@ -154,7 +155,7 @@ def test_what_a_log_to_be_checked_lacks():
 
 def test_the_front_end_explains_by_the_same_module():
     """It runs the module with the text on the standard input, and the module stands on the standard library alone."""
-    words = [sys.executable, "-S", "-m", "foldcairn.faults", "check", "8", "Range"]
+    words = [sys.executable, "-S", "-m", "foldcairn.model.faults", "check", "8", "Range"]
     said = subprocess.run(words, input=f"{LOG}tuned 0 1 6 6\n".encode(), capture_output=True, check=True).stdout.decode()
     assert said == "line 8: `tuned 0 1 6 6`: the end is above the start, and here they are 6 and 6\n"
 
@@ -170,7 +171,31 @@ def test_ratios_for_a_command_that_draws_no_losses(command: str):
     error = refused(f"{HEAD}pair 1 2\nratios\nratio 0 1 2 5\n", command)
     assert (error.line, error.kind) == (HEAD.count("\n") + 2, "BadWord")
     assert "which is read by outcome, fates, sample and draw" in error.explanation
-    assert f"for {command}, draw the losses of a seed first, by `foldcairn draw SEED FILE`" in error.explanation
+    by_seed = f"give a seed, by `foldcairn {command} --seed N FILE`, or " if command in ("run", "log") else ""
+    assert f"for {command}, {by_seed}draw the losses of a seed first, by `foldcairn draw SEED FILE`" in error.explanation
+
+
+def test_a_line_of_a_network_that_a_seed_runs():
+    text = f"{HEAD}pair 1 2\nratios\nratio 0 1 2 2000000\n"
+    told = {faults.explain(text.encode(), HEAD.count("\n") + 3, "Range", command) for command in ("run", "log", "outcome")}
+    assert len(told) == 1 and "the ratio, is from 0 to 1,000,000 millionths" in told.pop()
+
+
+@pytest.mark.parametrize(
+    ("command", "most", "says"),
+    [
+        ("run", 20_000, "and this is one more: take fewer, or `outcome`, `fates` and `sample`, which take up to 262,144"),
+        ("flood", 20_000, "a scenario has at most 20,000 lines of its script, and this is one more"),
+        ("outcome", 262_144, "a network has at most 262,144 lines of its script, and this is one more: put fewer packets, or shorten the run"),
+        ("log", 262_144, "a network has at most 262,144 lines of its script, and this is one more: put fewer packets, or shorten the run"),
+        ("draw", 262_144, "a network has at most 262,144 lines of its script, and this is one more: put fewer packets, or shorten the run"),
+    ],
+)
+def test_one_script_line_more(command: str, most: int, says: str):
+    head = "sends 1\nnode 1 0\nnode 2 0\n"
+    text = head + "rate 1 5 1\n" * (most + 1)
+    said = faults.explain(text, head.count("\n") + most + 1, "TooMany", command)
+    assert said.endswith(says), said
 
 
 def test_a_draw_with_too_many_losses():

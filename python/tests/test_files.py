@@ -13,7 +13,12 @@ from pathlib import Path
 import pytest
 from networks import FAILOVER, LINE, log_of
 
-from foldcairn import export, files, page, planning, plot, program, report, results, style, sweep
+from foldcairn import planning
+from foldcairn.common import files
+from foldcairn.draw import plot, style
+from foldcairn.many import sweep
+from foldcairn.pages import export, page, report
+from foldcairn.runs import program, results
 
 
 @pytest.fixture(scope="module")

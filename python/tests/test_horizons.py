@@ -10,9 +10,12 @@ import pytest
 from networks import FAILOVER
 from test_planning_random import drawn, log_of_drawn
 
-from foldcairn import cautions, outcome, planning, program, results
-from foldcairn.arguments import ArgumentError
-from foldcairn.scenario import Scenario, ScenarioWarning, grid, line
+from foldcairn import outcome, planning
+from foldcairn.common.arguments import ArgumentError
+from foldcairn.model import cautions
+from foldcairn.model.events import Leave
+from foldcairn.model.scenario import Scenario, ScenarioWarning, grid, line
+from foldcairn.runs import program, results
 
 LONG = "which with 34 nodes are 481 frames, or 32 minutes, and this network has 720 \\(48 minutes\\); for all of it take `results.outcome`"
 
@@ -44,7 +47,7 @@ def test_what_is_too_long_for_a_log_is_said_at_once(build) -> None:
         build()
     assert len(told(build)) == 1
     # It is no error, and `outcome` says nothing of it.
-    assert not any("`run` and `log`" in one for one in cautions.of(build(), long=True))
+    assert not any("`run` and `log` without a seed" in one for one in cautions.of(build(), long=True))
 
 
 def test_it_is_said_once_of_a_network_that_grows() -> None:
@@ -69,6 +72,19 @@ def test_longer_runs_than_any() -> None:
         results.bus(made)
     with pytest.raises(program.Refused, match="64 nodes times 360 frames are 23,040, and at most 16,384 are run"):
         results.log(Scenario.from_graph(line(64), 360, hosts=[1]))
+
+
+def test_more_script_lines_than_a_run_takes() -> None:
+    made = Scenario.from_graph(line(2), 12, hosts=[1]).stream(2, 4).put(2)
+    few = results.bus(made)
+    # A stream that was never requested ends again and again.
+    made.script += [Leave(11, 1, 0)] * 20_000
+    with pytest.raises(program.Refused, match="at most 20,000 lines of its script, and this is one more: take fewer, or `outcome`, `fates` and `sample`"):
+        results.run(made, timeout=60)
+    assert not made.is_for_run and len(few.deliveries) == 1
+    for report in (results.bus(made), outcome(made, 7)):
+        assert report.deliveries.equals(few.deliveries) and report.energy.equals(few.energy)
+    assert results.fates(made, 7)["became"].tolist() == ["sent"]
 
 
 def test_answers_of_64_nodes_over_five_hours() -> None:

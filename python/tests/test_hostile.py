@@ -12,10 +12,13 @@ import pytest
 from browser import CHROMIUM, Browser
 from networks import FAILOVER, LINE
 
-from foldcairn import page, planning, plot, results
+from foldcairn import planning
 from foldcairn.__main__ import main
-from foldcairn.scenario import Scenario
-from foldcairn.visible import csv, visible
+from foldcairn.common.visible import csv, visible
+from foldcairn.draw import plot
+from foldcairn.model.scenario import Scenario
+from foldcairn.pages import page
+from foldcairn.runs import results
 
 # Each would set `broken` in a page that takes it for HTML.
 TAG, IMAGE, QUOTE = "<script>broken = 1</script>", '"><img src=x onerror="broken = 1">', 'y" onload="broken = 1'

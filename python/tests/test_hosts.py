@@ -10,8 +10,11 @@ from functools import cache
 import pytest
 from conftest import REPOSITORY
 
-from foldcairn import capacity, columns, counts, importance, kept, losses, outcome, planning, program, report, results, seeds
-from foldcairn.scenario import Put, Scenario
+from foldcairn import outcome, planning
+from foldcairn.many import capacity, counts, importance, seeds
+from foldcairn.model.scenario import Put, Scenario
+from foldcairn.pages import report
+from foldcairn.runs import columns, kept, losses, program, results
 
 WORKED = REPOSITORY / "tests" / "worked" / "three-in-a-line.network"
 

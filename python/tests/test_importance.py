@@ -11,9 +11,11 @@ import pytest
 from networks import LINE
 
 import foldcairn
-from foldcairn import losses, planning, results, seeds as many
-from foldcairn.arguments import ArgumentError
-from foldcairn.scenario import Scenario
+from foldcairn import planning
+from foldcairn.common.arguments import ArgumentError
+from foldcairn.many import seeds as many
+from foldcairn.model.scenario import Scenario
+from foldcairn.runs import losses, results
 
 
 @pytest.fixture(scope="module")
@@ -104,11 +106,11 @@ def test_what_can_not_be_answered(pool: ThreadPoolExecutor) -> None:
 
 
 def test_the_network_of_a_log_answers_as_it_does_itself(pool: ThreadPoolExecutor) -> None:
-    """A log's scenario has losses that were drawn. Drawn once more on top of them, twice as much would be lost."""
+    """Of what a seed ran it is the network that is asked, so nothing is drawn twice."""
     network = Scenario(60).node(1).node(2).node(3).node(4).host(0, 1).pair(1, 2, 0.8).pair(2, 3, 0.8).pair(3, 4, 0.8).on().stream(4, 4).every(8, 4)
     network.lose(9, 2, 0, 2, 1)
     log = foldcairn.run(network, seed=1, progress=False)
-    for drawn in (log.scenario, Scenario.read(log.scenario.text(warn=False))):
+    for drawn in (log.scenario, Scenario.read(log.scenario.network_text(warn=False))):
         for what in ("links", "nodes"):
             asked = {"seeds": [1, 2], "executor": pool, "progress": False}
             assert planning.importance(drawn, what, **asked).equals(planning.importance(network, what, **asked))

@@ -8,8 +8,8 @@ import pytest
 from scipy import stats
 from statsmodels.stats.proportion import proportion_confint
 
-from foldcairn import intervals
-from foldcairn.arguments import ArgumentError
+from foldcairn.common.arguments import ArgumentError
+from foldcairn.many import intervals
 
 
 def test_an_interval_by_the_tables_of_student() -> None:

@@ -16,9 +16,10 @@ from hypothesis import given
 from hypothesis import strategies as st
 
 from conftest import EXAMPLES
-from foldcairn import losses, program
-from foldcairn.arguments import ArgumentError
-from foldcairn.scenario import Loss, On, Scenario, ScenarioError, grid, line
+from fixed_point import every_loss, fixed_point
+from foldcairn.common.arguments import ArgumentError
+from foldcairn.model.scenario import Loss, On, Scenario, ScenarioError, grid, line
+from foldcairn.runs import losses, program
 from scenarios import planned_grid
 
 # The first outputs of SplitMix64 from the state 1234567, as its reference implementation has them.
@@ -67,13 +68,13 @@ SLOTS = 14
 
 
 def by_fixed_point(scenario: Scenario, seed: int) -> Scenario:
-    """The scenario with its losses by `losses.fixed_point`."""
+    """The scenario with its losses by `fixed_point`."""
     drawn = scenario.copy()
-    drawn.losses += losses.fixed_point(scenario, seed)
+    drawn.losses += fixed_point(scenario, seed)
     return drawn
 
 
-# By the planner's program, where it has the command, and by logs until nothing changes. What the bus does not go by, as a packet
+# By the planner's program, and by logs until nothing changes. What the bus does not go by, as a packet
 # that a node hears while it scans, the first leaves as it comes; with the second each node hears the same.
 ways = pytest.mark.parametrize("way", [losses.draw, by_fixed_point])
 
@@ -135,7 +136,7 @@ def with_all_losses(seed: int) -> tuple[set[Loss], set[tuple], bytes]:
     scenario = networks(seed)
     known = set(scenario.losses)
     everything = scenario.copy()
-    everything.losses += [loss for loss in losses.every_loss(scenario, seed, slots=SLOTS) if loss not in known]
+    everything.losses += [loss for loss in every_loss(scenario, seed, slots=SLOTS) if loss not in known]
     return set(everything.losses), receptions(everything), bus(everything)
 
 
@@ -177,7 +178,7 @@ def test_drawn_losses_make_the_run_of_all_losses_in_a_grid_of_25(way):
     for node in (1, 8, 15, 22, 25):
         scenario.stream(node, 12).put(node, bytes([node])).put(node, bytes([node, 2]))
     everything = scenario.copy()
-    everything.losses = [loss for loss in losses.every_loss(scenario, 4, slots=SLOTS) if loss.frame in (5, 9)]
+    everything.losses = [loss for loss in every_loss(scenario, 4, slots=SLOTS) if loss.frame in (5, 9)]
     drawn = way(scenario, 4)
     received = receptions(everything)
     assert {frame for frame, *_ in received} == {5, 9}
@@ -209,7 +210,7 @@ def captured(seed: int, of_host: float) -> tuple[Scenario, set[Loss], set[tuple]
     for link in sorted(scenario.links):
         scenario.link(*link, prr=of_host if link[0] == 1 else 0.5)
     everything = scenario.copy()
-    everything.losses = losses.every_loss(scenario, seed, slots=SLOTS)
+    everything.losses = every_loss(scenario, seed, slots=SLOTS)
     return scenario, set(everything.losses), receptions(everything), bus(everything)
 
 
@@ -230,34 +231,34 @@ def test_both_ways_of_drawing_deliver_the_same(seed):
     alone. The networks of the seeds before are those of `test_drawn_losses_make_the_run_of_all_losses`, which says it of each way."""
     scenario = networks(seed)
     drawn, other = losses.draw(scenario, seed), by_fixed_point(scenario, seed)
-    everything = {*scenario.losses, *losses.every_loss(scenario, seed, slots=SLOTS)}
+    everything = {*scenario.losses, *every_loss(scenario, seed, slots=SLOTS)}
     for made in (drawn, other):
         assert set(scenario.losses) <= set(made.losses) <= everything and len(set(made.losses)) == len(made.losses)
     assert bus(drawn) == bus(other)
-    if not program.has_command("draw", program.find_planner()):
-        assert drawn.losses == other.losses
 
 
 def test_a_planner_that_draws(fake, monkeypatch):
-    """Its text is taken for what it is; where its lines don't fit, or the seed is none of its, the other way draws."""
+    """Its text is taken for what it is, and what it rejects is told; of a program that has no such command it is said which one has."""
     scenario = Scenario.from_graph(line(3), 30, hosts=[1]).stream(3, 8).every(10, 3).lose(5, 0, 0, 1, 2).link(2, 3, 0.5)
-    usage = 'if [ "$1" = usage ]; then echo "usage: draw SEED | outcome SEED"; exit 2; fi; '
-    draws = fake(usage + 'cat > /dev/null; echo "lose 5 0 0 1 2"; echo "lose 9 1 2 3 2"; echo "lose 9 1 0 2 3"')
+    draws = fake('cat > /dev/null; echo "lose 5 0 0 1 2"; echo "lose 9 1 2 3 2"; echo "lose 9 1 0 2 3"')
     monkeypatch.setenv("FOLDCAIRN_PLAN", str(draws))
     drawn = losses.draw(scenario, 3)
     assert drawn.losses == [Loss(5, 0, 0, 1, 2), Loss(9, 1, 0, 2, 3), Loss(9, 1, 2, 3, 2)] and drawn.seed == 3
-    assert losses.draw(scenario, -3).losses == scenario.losses + losses.fixed_point(scenario, -3)
-    fake(usage + 'cat > /dev/null; echo "fault line 40: TooMany"; exit 1')
-    assert losses.draw(scenario, 3).losses == scenario.losses + losses.fixed_point(scenario, 3)
-    fake(usage + 'cat > /dev/null; echo "fault line 40: TooBig"; exit 1')
-    with pytest.raises(program.Refused, match="TooBig"):
-        losses.draw(scenario, 3)
+    for kind in ("TooMany", "TooBig"):
+        fake(f'cat > /dev/null; echo "fault line 40: {kind}"; exit 1')
+        with pytest.raises(program.Refused, match=kind):
+            losses.draw(scenario, 3)
+    with pytest.raises(program.NotFound, match="has no command `draw`.*: set the environment variable FOLDCAIRN_PLAN to the path of the program"):
+        losses.draw(scenario, 3, program=program.find())
+    for seed in (-3, 10_000_000_000_000):
+        with pytest.raises(ArgumentError, match="`seed` is .*, and has to be a whole number from 0 to 9,999,999,999,999"):
+            losses.draw(scenario, seed)
 
 
 def test_losses_are_of_links_with_ratios_only():
     scenario = Scenario.from_graph(line(3), 30, hosts=[1]).stream(3, 8).every(10, 3)
     assert losses.draw(scenario, 1).losses == []
-    assert losses.every_loss(scenario, 1) == []
+    assert every_loss(scenario, 1) == []
     scenario.link(2, 3, prr=0.0)
     drawn = losses.draw(scenario, 1)
     assert {(loss.sender, loss.receiver) for loss in drawn.losses} == {(2, 3)}
@@ -272,8 +273,8 @@ def test_a_link_taken_out_changes_no_coin_of_the_others():
     scenario = Scenario.from_graph(grid(2, 3), 30, hosts=[1]).stream(6, 8).every(10, 6)
     for link in sorted(scenario.links):
         scenario.link(*link, prr=0.7)
-    everything = losses.every_loss(scenario, 3, slots=6)
-    fewer = losses.every_loss(scenario.copy().unlink(1, 2), 3, slots=6)
+    everything = every_loss(scenario, 3, slots=6)
+    fewer = every_loss(scenario.copy().unlink(1, 2), 3, slots=6)
     assert fewer == [loss for loss in everything if {loss.sender, loss.receiver} != {1, 2}]
     assert losses.draw(scenario, 3).losses != losses.draw(scenario, 4).losses
     counts = Counter((loss.sender, loss.receiver) for loss in everything)
@@ -349,12 +350,12 @@ def test_a_broken_program_is_an_exception(fake):
 
 def test_a_drawn_text_keeps_its_seed_and_ratios():
     made = Scenario.from_graph(line(3), 20, hosts=[1]).link(1, 2, 0.8).link(3, 2, 1 / 3).stream(3, 4).put(3)
-    drawn = losses.draw(made, -7)
+    drawn = losses.draw(made, 7)
     text = drawn.text(warn=False)
-    head = ["#: seed -7", "#: prr 1 2 0.8", "#: prr 3 2 0.3333333333333333", "profile 1"]
+    head = ["#: seed 7", "#: prr 1 2 0.8", "#: prr 3 2 0.3333333333333333", "profile 1"]
     assert text.splitlines()[:4] == head
     again = Scenario.read(text)
-    assert (again.seed, again.prr, again.losses) == (-7, made.prr, drawn.losses) and again.text(warn=False) == text
+    assert (again.seed, again.prr, again.losses) == (7, made.prr, drawn.losses) and again.text(warn=False) == text
     # To the program they are comments; and what was not drawn says nothing.
     assert program.execute(["run"], text) == program.execute(["run"], "".join(text.splitlines(keepends=True)[3:]))
     assert made.text(warn=False).startswith("profile 1\n")
@@ -372,7 +373,7 @@ def test_losses_are_never_drawn_on_top_of_others():
     read = Scenario.read(first.text(warn=False))
     assert read.drawn == first.drawn and read.undrawn().network_text() == network.network_text() and read.text() == first.text()
     for drawn in (first, read, first.copy()):
-        assert losses.draw(drawn, 2).text() == second.text() and losses.fixed_point(drawn, 2) == losses.fixed_point(network, 2)
+        assert losses.draw(drawn, 2).text() == second.text() and fixed_point(drawn, 2) == fixed_point(network, 2)
         assert losses.Drawing(drawn, 2).drawn().text() == second.text() and losses.Outcome(drawn, 2).scenario == losses.Outcome(read, 2).scenario
     # What is lost on top later is its own, and a network that was never drawn is the one that is given.
     assert first.copy().lose(7, 0, 0, 1, 2).undrawn().losses == [*network.losses, Loss(7, 0, 0, 1, 2)] and network.undrawn() is network

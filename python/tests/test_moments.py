@@ -10,8 +10,12 @@ import numpy as np
 import pytest
 from networks import FAILOVER, LINE
 
-from foldcairn import capacity, losses, moments, outcome, planning, results, service, tallies
-from foldcairn.scenario import Leave, Off, On, Put, Scenario, ScenarioError, Stream
+from foldcairn import outcome, planning
+from foldcairn.answers import outages
+from foldcairn.many import capacity, tallies
+from foldcairn.model import moments
+from foldcairn.model.scenario import Leave, Off, On, Put, Scenario, ScenarioError, Stream
+from foldcairn.runs import losses, results
 
 
 def two(frames: int = 40, profile: int = 1) -> Scenario:
@@ -199,9 +203,9 @@ def test_no_alarm_comes_before_it_happens() -> None:
 def test_a_packet_waits_from_its_frame_on() -> None:
     """For the cause of an outage a packet is there once it is handed over, and capacity counts what is put from a time on. The second host of
     the worked failover begins its first round at 109 s; a packet that is put at 108.9 s is handed over at 112 s."""
-    for seconds, cause in ((107.9, service.HOST), (108.9, service.NO_PACKET)):
+    for seconds, cause in ((107.9, outages.HOST), (108.9, outages.NO_PACKET)):
         made = Scenario.read(FAILOVER.replace("put 20 3 0 bb\n", "")).put(3, b"\xbb", seconds=seconds)
-        assert service.outages(results.log(made), "stream")["cause"].tolist() == [cause]
+        assert outages.outages(results.log(made), "stream")["cause"].tolist() == [cause]
     made = two(30).on().stream(2, 4).put(2, b"a", seconds=1).put(2, b"b", seconds=81)
     table = capacity._counts(None, 80.0, outcome(made, warn=False))
     assert table[table["source"] == 2][["put", "delivered", "one"]].values.tolist() == [[1, 1, 1]]

@@ -16,9 +16,11 @@ from networks import FAILOVER, LINE, log_of
 from pandas.core.computation import expressions
 
 import foldcairn
-from foldcairn import capacity, counts, importance, losses, planning, program, results
-from foldcairn.results import Log
-from foldcairn.scenario import Scenario, ScenarioWarning
+from foldcairn import planning
+from foldcairn.many import capacity, counts, importance
+from foldcairn.model.scenario import Scenario, ScenarioWarning
+from foldcairn.runs import losses, program, results
+from foldcairn.runs.results import Log
 
 
 def lossy() -> Scenario:
@@ -50,7 +52,7 @@ def test_what_a_notebook_shows(failover: Log) -> None:
 
 def test_the_top_of_the_package() -> None:
     assert foldcairn.Scenario is Scenario and foldcairn.Log is Log
-    assert foldcairn.__version__ == (Path(program.__file__).parents[3] / "VERSION").read_text().strip()
+    assert foldcairn.__version__ == (Path(program.__file__).parents[4] / "VERSION").read_text().strip()
     with pytest.raises(AttributeError, match="no attribute 'scenarios'"):
         foldcairn.scenarios  # noqa: B018
 
@@ -80,10 +82,8 @@ def test_where_results_come_from() -> None:
 # Long work.
 
 
-@pytest.mark.parametrize("seed", [3, -3])
-def test_a_drawing_that_is_kept(seed: int, tmp_path: Path, monkeypatch: pytest.MonkeyPatch) -> None:
-    """By the planner's program, and of a negative seed, which is none of its, by logs."""
-    made = lossy()
+def test_a_drawing_that_is_kept(tmp_path: Path, monkeypatch: pytest.MonkeyPatch) -> None:
+    made, seed = lossy(), 3
     bar = io.StringIO()
     drawn = losses.draw(made, seed, results=tmp_path, progress=bar)
     assert "40/40" in bar.getvalue() and len(list(tmp_path.iterdir())) == 1
@@ -102,24 +102,6 @@ def test_a_drawing_of_the_planner_that_is_stopped(tmp_path: Path, monkeypatch: p
         losses.draw(made, 3, results=tmp_path)
     assert not list(tmp_path.iterdir())
     assert losses.draw(made, 3, results=tmp_path) == losses.draw(made, 3)
-
-
-def test_a_drawing_by_logs_that_is_stopped_goes_on(tmp_path: Path, monkeypatch: pytest.MonkeyPatch) -> None:
-    made, runs = lossy(), []
-    run = losses._log
-
-    def stopped(*given):
-        runs.append(given)
-        if len(runs) == 3:
-            raise KeyboardInterrupt
-        return run(*given)
-
-    monkeypatch.setattr(losses, "_log", stopped)
-    with pytest.raises(KeyboardInterrupt):
-        losses.draw(made, -3, results=tmp_path)
-    # What was drawn by then is taken up, and the losses are those of one go.
-    assert losses.draw(made, -3, results=tmp_path) == losses.draw(made, -3)
-    assert len(runs[3][1]) > 0
 
 
 @pytest.mark.parametrize("call", [importance.importance, capacity.capacity])

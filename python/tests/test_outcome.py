@@ -7,8 +7,10 @@ import random
 import pytest
 
 from conftest import REPOSITORY
-from foldcairn import arguments, importance, losses, program, results
-from foldcairn.scenario import Scenario
+from foldcairn.common import arguments
+from foldcairn.many import importance
+from foldcairn.model.scenario import Scenario
+from foldcairn.runs import losses, program, results
 
 
 def outcome(network: Scenario, seed: int) -> bytes:
@@ -96,7 +98,7 @@ def test_what_is_too_long_is_told_what_to_take():
 
 
 def test_where_the_program_of_a_planner_is(monkeypatch, tmp_path, fake):
-    assert program.has_command("outcome", program.find_planner()) and not program.has_command("run", program.find_planner())
+    assert program.has_command("outcome", program.find_planner()) and not program.has_command("bus", program.find_planner())
     stored = REPOSITORY / "bin" / "foldcairn-plan-x86_64-linux"
     monkeypatch.delenv("FOLDCAIRN_PLAN", raising=False)
     monkeypatch.setenv("FOLDCAIRN", str(REPOSITORY / "bin" / "foldcairn-x86_64-linux"))

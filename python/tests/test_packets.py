@@ -3,8 +3,8 @@
 import pytest
 from hypothesis import given, settings, strategies
 
-from foldcairn import packets
-from foldcairn.packets import Acknowledgement, Data, NotAPacket, Owner, Request, Schedule
+from foldcairn.runs import packets
+from foldcairn.runs.packets import Acknowledgement, Data, NotAPacket, Owner, Request, Schedule
 
 STREAM = Owner(2, 0)
 ASKED = Acknowledgement(2, 1, 0, 4)

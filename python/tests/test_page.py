@@ -13,10 +13,13 @@ import pytest
 from browser import CHROMIUM, Browser
 from networks import FAILOVER, log_of
 
-from foldcairn import findings, page, results, style
-from foldcairn.settings import Settings
 from foldcairn.__main__ import main
-from foldcairn.scenario import Scenario
+from foldcairn.answers import findings
+from foldcairn.draw import style
+from foldcairn.model.scenario import Scenario
+from foldcairn.pages import page
+from foldcairn.pages.settings import Settings
+from foldcairn.runs import results
 
 needs_chromium = pytest.mark.skipif(
     CHROMIUM is None, reason="chromium is missing; tools/setup-python.sh --optional installs it (apt-get install chromium)"

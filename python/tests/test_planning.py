@@ -7,9 +7,12 @@ import pandas as pd
 import pytest
 from networks import CLOSE, CONTENDERS, FAILOVER, LINE, SECOND, log_of, step, window
 
-from foldcairn import findings, page, planning, radio, results, settings
-from foldcairn.results import Log
-from foldcairn.scenario import Scenario
+from foldcairn import planning
+from foldcairn.answers import findings, radio
+from foldcairn.model.scenario import Scenario
+from foldcairn.pages import page, settings
+from foldcairn.runs import results
+from foldcairn.runs.results import Log
 
 
 # For how long a packet of 9 bytes is on the air, and from one step to the next, in seconds.

@@ -12,7 +12,8 @@ import pages
 import pytest
 from conftest import REPOSITORY
 
-from foldcairn import executors, planning
+from foldcairn import planning
+from foldcairn.many import executors
 
 PAGE = REPOSITORY / "docs" / "PLANNING.md"
 

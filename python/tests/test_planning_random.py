@@ -10,8 +10,10 @@ import numpy as np
 import pytest
 from conftest import EXAMPLES
 
-from foldcairn import delivery, fates, planning, radio, results
-from foldcairn.scenario import Scenario
+from foldcairn import planning
+from foldcairn.answers import puts, radio
+from foldcairn.model.scenario import Scenario
+from foldcairn.runs import results
 
 # By how much the radio's time in a window may differ from what is planned for it, in ticks, in profile 1 and 2.
 NEAR = {1: 44_960, 2: 58_300}
@@ -67,14 +69,14 @@ def test_packets_that_were_sent_are_those_that_were_put(log: results.Log) -> Non
     table = planning.packets(log)
     data = log.initiations[log.initiations["kind"] == "data"]
     assert len(data) > 50
-    payloads = dict(zip(table[delivery.PACKET].itertuples(index=False, name=None), table["payload"]))
+    payloads = dict(zip(table[results.PACKET].itertuples(index=False, name=None), table["payload"]))
     for packet in data["decoded"]:
         assert payloads[packet.node, packet.boot, packet.stream, packet.number] == packet.payload.hex()
     for one in log.deliveries.itertuples():
         assert payloads[one.source, one.boot, one.stream, one.number] == one.payload
     assert table["sent_seconds"].notna().sum() == len(data)
     assert table["fate"].astype(str).str.startswith("dropped").sum() == len(log.drops)
-    assert (table.loc[table["fate"] == "queued"].groupby(["source", "stream"]).size() <= fates.QUEUE_LENGTH).all()
+    assert (table.loc[table["fate"] == "queued"].groupby(["source", "stream"]).size() <= puts.QUEUE_LENGTH).all()
     assert table["deliveries"].sum() == len(log.deliveries)
     assert planning.fates(log, "all")["puts"].tolist() == [len(table)]
 

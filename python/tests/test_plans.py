@@ -15,10 +15,14 @@ import pytest
 from networks import FAILOVER, LINE
 from scipy import stats
 
-from foldcairn import commands, compare, differences, losses, planning, plans, program, tallies
+from foldcairn import planning
 from foldcairn.__main__ import main
-from foldcairn.arguments import ArgumentError
-from foldcairn.scenario import Scenario
+from foldcairn.cli import commands, plans
+from foldcairn.common.arguments import ArgumentError
+from foldcairn.many import tallies
+from foldcairn.model.scenario import Scenario
+from foldcairn.pages import compare, differences
+from foldcairn.runs import losses, program
 
 
 @pytest.fixture(autouse=True)
@@ -107,6 +111,10 @@ def test_importance(folder: Path, capsys: pytest.CaptureFixture[str]) -> None:
         (["importance", "line.scenario", "--only", "1"], "`--only` is '1', and has to be pairs of nodes"),
         (["importance", "line.scenario", "--of", "nodes", "--only", "pump"], "the scenario has no node pump"),
         (["sweep", ".", "--receivers", "hosts"], "`--receivers` needs `--measure planning`"),
+        (["sweep", ".", "--part", "0/2"], "`--part` is '0/2', and has to be K/N with K from 1 to N, as 2/5 for the second of five parts"),
+        (["sweep", ".", "--part", "3/2"], "`--part` is '3/2', and has to be K/N with K from 1 to N"),
+        (["sweep", ".", "--part", "2"], "`--part` is '2', and has to be K/N"),
+        (["sweep", ".", "--part", "4/4"], "`--part` is '4/4', and there are 3 cases alone"),
     ],
 )
 def test_words_that_make_no_sense(words: list[str], says: str, folder: Path, capsys: pytest.CaptureFixture[str]) -> None:
@@ -141,6 +149,22 @@ def test_a_draw_is_kept(folder: Path, capsys: pytest.CaptureFixture[str]) -> Non
         texts.append(capsys.readouterr())
     # It says how far it is where it draws, and the second call takes what is there.
     assert texts[0].out == texts[1].out and "frames" in texts[0].err and texts[1].err == "" and len(list((folder / "kept").iterdir())) == 1
+
+
+def test_a_sweep_in_parts(folder: Path, capsys: pytest.CaptureFixture[str]) -> None:
+    """The parts have each case once, and by the results that they keep together a call without a part writes the table of all."""
+    words = ["sweep", "line.scenario", "--ratios", "ratios.csv", "--seeds", "1-5", "--jobs", "1"]
+    seeds = []
+    for part in ("1/2", "2/2"):
+        assert main([*words, "--results", "kept", "--part", part]) == 0
+        seeds.append(pd.read_csv(io.StringIO(capsys.readouterr().out))["seed"].tolist())
+    assert seeds == [[1, 3, 5], [2, 4]]
+    files = {path.name: path.stat().st_mtime_ns for path in (folder / "kept").iterdir()}
+    assert main([*words, "--results", "kept"]) == 0
+    gathered = capsys.readouterr().out
+    assert len(files) == 5 and {path.name: path.stat().st_mtime_ns for path in (folder / "kept").iterdir()} == files
+    assert main(words) == 0
+    assert capsys.readouterr().out == gathered
 
 
 def test_a_sweep_counts_at_receivers(folder: Path, capsys: pytest.CaptureFixture[str]) -> None:

@@ -24,9 +24,12 @@ from networks import CONTENDERS, FAILOVER, LINE, log_of
 from PIL import Image
 
 from conftest import EXAMPLES
-from foldcairn import maps, planning, plot, results, timing
+from foldcairn import planning
 from foldcairn.__main__ import main
-from foldcairn.scenario import Scenario, grid, line, random_geometric, star
+from foldcairn.answers import timing
+from foldcairn.draw import maps, plot
+from foldcairn.model.scenario import Scenario, grid, line, random_geometric, star
+from foldcairn.runs import results
 
 LEGEND = {"no power", "radio on, channel of rank 0", "radio on, channel of rank 1", "opens a round", "delivers packets", "radio off"}
 

@@ -8,12 +8,13 @@ import signal
 import subprocess
 import sys
 import time
-from pathlib import Path
 
 import pytest
 
 from conftest import EXAMPLES, REPOSITORY
-from foldcairn import front_end, program, version
+from foldcairn import front_end
+from foldcairn.common import version
+from foldcairn.runs import program
 
 SCENARIO = EXAMPLES / "packets-along-a-line.scenario"
 REPORT = EXAMPLES / "expected" / "packets-along-a-line.report"
@@ -243,6 +244,6 @@ def test_input_that_is_not_read(fake):
 
 
 def test_the_package_says_that_it_is_not_proved():
-    for path in sorted(Path(program.__file__).parent.rglob("*.py")):
+    for path in sorted((REPOSITORY / "python" / "src" / "foldcairn").rglob("*.py")):
         head = path.read_text().partition('"""')[2].partition('"""')[0]
         assert "proved" in head, path

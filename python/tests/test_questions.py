@@ -24,8 +24,10 @@ from PIL import Image
 
 import foldcairn
 from conftest import REPOSITORY
-from foldcairn import meanings, page, planning, plot, report
-from foldcairn.scenario import Scenario
+from foldcairn import planning
+from foldcairn.draw import plot
+from foldcairn.model.scenario import Scenario
+from foldcairn.pages import meanings, page, report
 
 needs_chromium = pytest.mark.skipif(
     CHROMIUM is None, reason="chromium is missing; tools/setup-python.sh --optional installs it (apt-get install chromium)"
@@ -164,13 +166,13 @@ def test_a_browser_shows_the_page_and_prints_it(browser: Browser, text: str, tmp
     browser.evaluate("document.getElementById('show-hosts').click()")
     assert browser.evaluate(shown % "#show-hosts ~ .shown") == "block"
     assert browser.evaluate("fetch(document.getElementById('save-settings').href).then((answer) => answer.text())") == unpacked(text, "settings")
-    # In print tables are open, buttons are gone, and nothing is wider than the page: 273 mm between the margins.
+    # In print tables are open, buttons are gone, and nothing is wider than the page, which stands upright: 702 pixels between the margins.
     browser.call("Emulation.setEmulatedMedia", media="print")
-    browser.call("Emulation.setDeviceMetricsOverride", width=1032, height=702, deviceScaleFactor=1, mobile=False)
+    browser.call("Emulation.setDeviceMetricsOverride", width=702, height=1032, deviceScaleFactor=1, mobile=False)
     assert browser.evaluate(shown % "#show-joins ~ .shown") == "block" and browser.evaluate(shown % "#timeline") == "none"
     assert browser.evaluate(shown % ".buttons") == "none" and browser.evaluate(shown % ".printed") == "block"
-    assert browser.evaluate("Math.max(...[...document.querySelectorAll('table, img, pre')].map((one) => one.getBoundingClientRect().right))") <= 1032
-    assert browser.evaluate("Math.max(...[...document.querySelectorAll('img')].map((one) => one.getBoundingClientRect().height))") <= 702
+    assert browser.evaluate("Math.max(...[...document.querySelectorAll('table, img, pre')].map((one) => one.getBoundingClientRect().right))") <= 702
+    assert browser.evaluate("Math.max(...[...document.querySelectorAll('img')].map((one) => one.getBoundingClientRect().height))") <= 1032
     pdf = base64.b64decode(browser.call("Page.printToPDF", preferCSSPageSize=True)["data"])
     assert pdf.startswith(b"%PDF") and len(re.findall(rb"/Type\s*/Page\b", pdf)) > 10
     assert browser.console == []
@@ -191,7 +193,7 @@ def test_plans_side_by_side(browser: Browser, given: SimpleNamespace, tmp_path: 
     assert len(told.runs) == 4 and len(list((tmp_path / "kept").iterdir())) == 4
     assert (tmp_path / "plans.html").read_text() == told.html and repr(told) == "<Comparison of A, B: 2 seeds>"
     browser.call("Page.navigate", url=(tmp_path / "plans.html").as_uri())
-    browser.wait("document.readyState === 'complete' && document.images.length === 3")
+    browser.wait("document.readyState === 'complete' && document.images.length === 4")
     assert browser.evaluate("[...document.images].every((image) => image.complete && image.naturalWidth > 200)")
     heads = browser.evaluate("[...document.querySelectorAll('.answers thead th')].map((one) => one.textContent)")
     assert heads == ["", "A", "B", "better"]
@@ -199,7 +201,8 @@ def test_plans_side_by_side(browser: Browser, given: SimpleNamespace, tmp_path: 
     assert "± " in browser.evaluate("document.querySelector('.answers tbody td').textContent")
     assert browser.evaluate("document.body.textContent.includes('The radios of plan B where its host fails')")
     # The map of both is the same, and what differs is named.
-    assert browser.evaluate("[...document.querySelectorAll('.figure h2')].map((one) => one.textContent)")[0] == "The network, all plans"
+    heads = browser.evaluate("[...document.querySelectorAll('.figure h2')].map((one) => one.textContent)")
+    assert heads[:2] == ["The answers, drawn", "The network, all plans"]
     differ = browser.evaluate("[...document.querySelectorAll('.differences td')].map((one) => one.textContent)")
     assert differ[:2] == ["At 24 s node 1 is switched off.", "At 48 s node 1 is switched off."]
     assert pd.isna(told.table["A"]).sum() < 6

@@ -11,11 +11,14 @@ import numpy
 import pandas
 import pytest
 from conftest import REPOSITORY
+from fixed_point import bound as bound_of, every_loss
 
-from foldcairn import faults, losses, plot, results, tables
-from foldcairn.arguments import ArgumentError
-from foldcairn.scenario import Ratio, Scenario, ScenarioError, grid, line
-from foldcairn.settings import Settings
+from foldcairn.common.arguments import ArgumentError
+from foldcairn.draw import plot
+from foldcairn.model import faults, tables
+from foldcairn.model.scenario import Ratio, Scenario, ScenarioError, grid, line
+from foldcairn.pages.settings import Settings
+from foldcairn.runs import losses, results
 
 WORKED = REPOSITORY / "tests" / "worked" / "three-in-a-line.network"
 
@@ -85,7 +88,10 @@ HEAD = "sends 2\nnode 1 0\nnode 2 0\nhost 0 1\nlink 1 2\nframes 12\nratios\n"
         (HEAD + "ratio 0 2 1 5\n", "there is no link from 2 to 1"),
         (HEAD + "ratio 3 1 2 5\n# again\nratio 3 1 2 6\n", "line 8 has frame 3 for this link"),
         (HEAD.replace("host 0 1\n", "") + "ratio 3 1 2 5\n", "line 6: `ratios`: "),
-        (HEAD.replace("ratios\n", "") + "ratio 0 1 2 5\n", "which is read by outcome, fates, sample and draw; `ratio` lines are below a line `ratios`"),
+        (
+            HEAD.replace("ratios\n", "") + "ratio 0 1 2 5\n",
+            "which is read by outcome, fates, sample and draw, and by run and log with a seed; `ratio` lines are below a line `ratios`",
+        ),
     ],
 )
 def test_network_texts_that_are_wrong(text, says) -> None:
@@ -132,7 +138,7 @@ def test_a_map_has_the_ratios_of_its_time() -> None:
 def test_coins_are_of_the_ratio_in_force() -> None:
     made = Scenario(400).node(1).node(2).host(0, 1).pair(1, 2).ratio(1, 2, 0.2).ratio(1, 2, 0.8, frame=200).ratio(2, 1, 0.5, frame=399)
     lost: dict[tuple[int, int, bool], int] = defaultdict(int)
-    for loss in losses.every_loss(made, 5, slots=6):
+    for loss in every_loss(made, 5, slots=6):
         lost[loss.sender, loss.receiver, loss.frame >= 200] += 1
     count = 200 * 6 * 12
     for late, ratio in ((False, 0.2), (True, 0.8)):
@@ -142,7 +148,7 @@ def test_coins_are_of_the_ratio_in_force() -> None:
 
 def test_a_coin_passes_below_its_ratio_in_millionths() -> None:
     for ratio in (0.0, 1e-7, 0.1, 1 / 3, 0.7, 0.999999, 0.9999999, 1.0):
-        bound = losses._bound(ratio)
+        bound = bound_of(ratio)
         exact = Fraction(round(1_000_000 * ratio), 1_000_000)
         coins = [Fraction(int(bound * 2**53) + near, 2**53) for near in (-1, 0, 1)]
         assert [float(coin) < bound for coin in coins] == [coin < exact for coin in coins]
@@ -154,7 +160,7 @@ def test_drawn_losses_of_ratios_over_time() -> None:
     for number, link in enumerate(sorted(made.links)):
         made.ratio(*link, 0.7 + 0.02 * number).ratio(*link, 0.5, frame=8 + number).ratio(*link, 1, frame=22)
     whole = made.copy()
-    whole.losses = losses.every_loss(made, 2, slots=8)
+    whole.losses = every_loss(made, 2, slots=8)
     drawn = losses.draw(made, 2)
     assert set(drawn.losses) <= set(whole.losses) and 0 < len(drawn.losses) < len(whole.losses)
     assert results.bus(drawn).deliveries.equals(results.bus(whole).deliveries)

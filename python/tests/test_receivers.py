@@ -6,9 +6,11 @@ import numpy as np
 import pytest
 from networks import FAILOVER, LINE, log_of
 
-from foldcairn import importance, planning, results
-from foldcairn.results import Log
-from foldcairn.scenario import Scenario, ScenarioError
+from foldcairn import planning
+from foldcairn.many import importance
+from foldcairn.model.scenario import Scenario, ScenarioError
+from foldcairn.runs import results
+from foldcairn.runs.results import Log
 
 
 @pytest.fixture(scope="module")

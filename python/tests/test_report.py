@@ -5,6 +5,7 @@ from __future__ import annotations
 import io
 import json
 import sys
+from dataclasses import replace
 from pathlib import Path
 
 import pandas as pd
@@ -12,9 +13,11 @@ import pytest
 from networks import FAILOVER, LINE, log_of
 
 import foldcairn
-from foldcairn import __main__, losses, page as pages, planning, program, report, results, sample_page
+from foldcairn import __main__, planning
 from foldcairn.__main__ import main
-from foldcairn.scenario import Scenario
+from foldcairn.model.scenario import Scenario
+from foldcairn.pages import page as pages, report, sample_page, titles as titling
+from foldcairn.runs import losses, program, results, running
 
 
 def test_all_tables_as_text(tmp_path: Path, capsys: pytest.CaptureFixture[str]) -> None:
@@ -128,12 +131,15 @@ def test_ratios_are_drawn_once_and_that_is_said(
 ) -> None:  # fmt: skip
     """What is told is a run with the losses of the seed, and each table says so in its title."""
     Path("drawn.scenario").write_text(losses.draw(network, 4).text(warn=False))
-    expected = planning.tables(results.log(losses.draw(network, seed), warn=False))
+    drawn = words == ["drawn.scenario"]
+    log = results.log(Path("drawn.scenario"), warn=False) if drawn else running.by_seed(network, seed)
+    expected = planning.tables(log)
     assert main(["report", *words]) == 0
     told = capsys.readouterr().out
     titles = [line for line in told.splitlines() if DRAW in line]
     assert len(titles) == len(report.SHOWN) and all(line.endswith(f"({DRAW} {seed})") for line in titles)
-    assert told == report.shown(expected, {name: f"{title} ({DRAW} {seed})" for name, title in report.titles(network, None, {}).items()})
+    without = replace(log, origin=replace(log.origin, seed=None))
+    assert told == report.shown(expected, {name: f"{title} ({DRAW} {seed})" for name, title in titling.titles(without, None, {}).items()})
     assert expected["delivery-by-stream"]["ratio_of_put"][0] < 1
     assert main(["report", *words, "--json", "--html", "line.html"]) == 0
     assert json.loads(capsys.readouterr().out)["seed"] == seed
@@ -187,6 +193,8 @@ def test_too_many_losses(network: Scenario, capsys: pytest.CaptureFixture[str], 
     def fails(*_: object, **__: object) -> None:
         raise losses.TooManyLosses(7, 3)
 
+    # A program without the words `run SEED` and `log SEED` has its losses drawn first.
+    monkeypatch.setattr(running, "takes_seed", lambda: False)
     monkeypatch.setattr(losses, "draw", fails)
     assert main(["report", "line.network"]) == 1
     assert str(losses.TooManyLosses(7, 3)) in capsys.readouterr().err

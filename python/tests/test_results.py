@@ -15,8 +15,8 @@ import pytest
 from conftest import EXAMPLES, REPOSITORY
 from networks import CONTENDERS, FAILOVER, LINE, SECOND
 
-from foldcairn import columns, program, results
-from foldcairn.scenario import Scenario, ScenarioWarning
+from foldcairn.model.scenario import Scenario, ScenarioWarning
+from foldcairn.runs import columns, program, results
 
 FULL_QUEUE = (EXAMPLES / "full-queue.scenario").read_text()
 

@@ -27,11 +27,15 @@ from statsmodels.stats.proportion import proportion_confint
 from test_outcome import small_network
 from test_sweep import network as swept_network
 
-from foldcairn import columns, counts, losses, planning, plans, program, report, results, seeds, sweep, tallies
+from foldcairn import planning
 from foldcairn.__main__ import main
-from foldcairn.arguments import ArgumentError
-from foldcairn.sample import Sample
-from foldcairn.scenario import Scenario
+from foldcairn.cli import plans
+from foldcairn.common.arguments import ArgumentError
+from foldcairn.many import counts, seeds, sweep, tallies
+from foldcairn.many.sample import Sample
+from foldcairn.model.scenario import Scenario
+from foldcairn.pages import report
+from foldcairn.runs import columns, losses, program, results
 
 WORKED = REPOSITORY / "tests" / "worked" / "three-in-a-line.network"
 SPREAD = ["seeds", "mean", "error", "low", "high", "least", "p5", "p50", "p95", "greatest"]

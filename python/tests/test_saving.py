@@ -8,10 +8,11 @@ from pathlib import Path
 import pytest
 from hypothesis import given, settings, strategies as st
 
-from foldcairn import losses, planning, program, results
-from foldcairn.arguments import ArgumentError
-from foldcairn.receivers import meant
-from foldcairn.scenario import On, Put, Scenario, ScenarioError, ScenarioWarning, Stream
+from foldcairn import planning
+from foldcairn.common.arguments import ArgumentError
+from foldcairn.model.receivers import meant
+from foldcairn.model.scenario import On, Put, Scenario, ScenarioError, ScenarioWarning, Stream
+from foldcairn.runs import losses, program, results
 from networks import LINE
 from scenarios import scenarios
 
@@ -129,7 +130,7 @@ def test_the_name_of_a_file_is_no_text(tmp_path: Path, monkeypatch: pytest.Monke
 
 
 def test_places_of_tables_are_those_of_maps(tmp_path: Path) -> None:
-    from foldcairn import plot
+    from foldcairn.draw import plot
 
     (tmp_path / "nodes.csv").write_text("id,x,y,host\n1,0,0,0\n2,40,10,\n")
     (tmp_path / "links.csv").write_text("from,to,both\n1,2,yes\n")

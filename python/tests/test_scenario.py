@@ -10,11 +10,10 @@ import pytest
 from hypothesis import given, settings
 
 from conftest import EXAMPLES
-from foldcairn import program
-from foldcairn.scenario import (
-    Capture, Cut, Leave, Loss, Off, On, Put, Rate, Scenario, ScenarioError, ScenarioWarning, Stream, grid, line, random_geometric,
-    star,
-)  # fmt: skip
+from foldcairn.model.scenario import (
+    Capture, Cut, Leave, Loss, Off, On, Put, Rate, Scenario, ScenarioError, ScenarioWarning, Stream, grid, line, random_geometric, star,
+)
+from foldcairn.runs import program
 from scenarios import planned_grid, scenarios
 
 # The text and its canonical text of docs/SCENARIO.md.

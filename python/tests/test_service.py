@@ -10,9 +10,12 @@ import pandas as pd
 import pytest
 from networks import FAILOVER, LINE, log_of
 
-from foldcairn import capacity, losses, planning, results, service
-from foldcairn.arguments import ArgumentError
-from foldcairn.scenario import On, Scenario
+from foldcairn import planning
+from foldcairn.answers import service
+from foldcairn.common.arguments import ArgumentError
+from foldcairn.many import capacity
+from foldcairn.model.scenario import On, Scenario
+from foldcairn.runs import losses, results
 
 # Node 1 hosts until frame 6, node 2 from frame 27 until frame 40, and then nobody.
 SILENT = FAILOVER.replace("frames 32", "frames 60") + "off 40 2\nput 45 3 0 cc\n"
@@ -173,10 +176,12 @@ def with_script(made: Scenario, more: list[On]) -> Scenario:
         (lambda: line(8, 0.6), "the links to nodes 7, 8 lose so much that a flood needs more than its 12 steps"),
         (lambda: line(3).node(9).on(9), "node 9 has no link to or from any other node"),
         (lambda: line(3).link(1, 3, 0).node(9).link(9, 1, 0).link(1, 9, 0).on(9), "node 9 has no link"),
-        (lambda: line(34, frames=720), "`run` and `log` take at most 16,384 nodes times frames, which with 34 nodes are 481 frames, or 32 "
+        (lambda: line(34, frames=720), "`run` and `log` without a seed take at most 16,384 nodes times frames, which with 34 nodes are 481 frames, or 32 "
                                       "minutes, and this network has 720 (48 minutes); for all of it take `results.outcome`"),
         (lambda: line(65), "`run` rejects this: it has 65 nodes, and at most 64 are run"),
-        (lambda: with_script(line(3), [On(0, 1)] * 20_000), "lines of its script, and at most 20,000 are read"),
+        (lambda: with_script(line(3), [On(0, 1)] * 20_000), "`run` and `log` without a seed take at most 20,000 lines of a script, and this network has "
+                                                             "20,003; for all of it take `results.outcome`"),
+        (lambda: with_script(line(3), [On(0, 1)] * 262_144), "`outcome` rejects this: it has 262,147 lines of its script, and at most 262,144 are read"),
         (lambda: Scenario(4).node(1).node(2).pair(1, 2).on(), "`run` rejects this: no node hosts; say which one by `host(0, id)`"),
         (lambda: line(5).stream(2, 9).put(2).stream(3, 9).put(3).stream(4, 9).put(4), "3 nodes ask for their streams in one contention slot"),
     ],

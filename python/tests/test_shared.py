@@ -10,8 +10,11 @@ import numpy
 import pandas
 import pytest
 
-from foldcairn import page, planning, plot, report, results
-from foldcairn.scenario import Cut, Loss, Rate, Scenario, line
+from foldcairn import planning
+from foldcairn.draw import plot
+from foldcairn.model.scenario import Cut, Loss, Rate, Scenario, line
+from foldcairn.pages import page, report
+from foldcairn.runs import results
 
 WHOM = [1, 2]
 

@@ -9,9 +9,13 @@ from pathlib import Path
 import pandas
 import pytest
 
-from foldcairn import export, labels, page, planning, plot, results
+from foldcairn import planning
 from foldcairn.__main__ import main
-from foldcairn.scenario import Scenario, ScenarioError
+from foldcairn.answers import labels
+from foldcairn.draw import plot
+from foldcairn.model.scenario import Scenario, ScenarioError
+from foldcairn.pages import export, page
+from foldcairn.runs import results
 
 NODES = "id,host\n1,0\n2,\n3,1\n"
 LINKS = "from,to,prr\n1,2,0.9\n2,1,0.8\n2,3,0.9\n3,2,0.9\n"
@@ -107,7 +111,7 @@ def test_all_pictures_have_the_names(named: results.Log) -> None:
         figure.draw_without_rendering()
         return {text.get_text() for text in figure.findobj(lambda artist: hasattr(artist, "get_text"))}
 
-    assert {"cellar (host 0)", "stairs", "pump"} <= words(plot.topology(named.scenario))
+    assert {"cellar (host 0)", "stairs", "pump (host 1)"} <= words(plot.topology(named.scenario))
     assert {"host 0, cellar", "stairs"} <= words(plot.timeline(named))
     assert "cellar" in words(plot.delivery(planning.delivery_ratio(named, "pair")))
 
@@ -183,7 +187,7 @@ def test_names_on_the_command_line(named: results.Log, tmp_path: Path, monkeypat
 
 
 def test_places_and_ratios_by_names(tmp_path: Path) -> None:
-    from foldcairn import tables as reading
+    from foldcairn.model import tables as reading
 
     frame = pandas.DataFrame({"id": ["cellar", "pump"], "x": [0, 1], "y": [2, 3]})
     assert reading.positions(frame) == {1: (0.0, 2.0), 2: (1.0, 3.0)}

@@ -16,8 +16,10 @@ import pandas
 import pytest
 
 from conftest import EXAMPLES
-from foldcairn import counts, kept, losses, planning, program, sweep
-from foldcairn.scenario import On, Scenario, grid, line
+from foldcairn import planning
+from foldcairn.many import counts, sweep
+from foldcairn.model.scenario import On, Scenario, grid, line
+from foldcairn.runs import kept, losses, program
 
 LINE = EXAMPLES / "packets-along-a-line.scenario"
 
@@ -60,7 +62,7 @@ def test_a_table_in_the_order_of_its_cases():
     assert list(table.columns) == ["interval", "status", "deliveries", "drops", "sent_ticks", "on_ticks"]
     assert table.interval.tolist() == [16, 4, 8]
     assert table.status.tolist() == ["ok"] * 3
-    # Two packets, two receivers, a slot every so many seconds: as tools/sweep.sh counts them.
+    # Two packets, two receivers, a slot every so many seconds: the lines of the report.
     assert table.deliveries.tolist() == [
         program.execute(["run"], network(interval).text()).count(b"deliver ") for interval in (16, 4, 8)
     ]

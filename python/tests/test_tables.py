@@ -11,8 +11,9 @@ from pathlib import Path
 import pandas
 import pytest
 
-from foldcairn import losses, results, tables
-from foldcairn.scenario import Scenario, ScenarioError
+from foldcairn.model import tables
+from foldcairn.model.scenario import Scenario, ScenarioError
+from foldcairn.runs import losses, results
 
 NODES = "id,host\n1,0\n2,\n3,1\n"
 LINKS = "from,to,prr\n1,2,0.9\n2,1,0.8\n2,3,0.9\n3,2,0.9\n"

@@ -15,9 +15,9 @@ import pandas
 import pytest
 from conftest import EXAMPLES, REPOSITORY
 
-from foldcairn import losses, program, results
 from foldcairn.__main__ import main
-from foldcairn.scenario import Scenario
+from foldcairn.model.scenario import Scenario
+from foldcairn.runs import losses, program, results, running
 
 LINE = EXAMPLES / "packets-along-a-line.scenario"
 # Three nodes in a line, each link with a ratio of 70 %: with seed 7 nothing arrives, with seed 8 two of the three packets, at two nodes.
@@ -41,7 +41,7 @@ def said(words: list[str], capsys: pytest.CaptureFixture[str]) -> tuple[int, str
 @pytest.mark.parametrize(
     ("words", "says"),
     [
-        (["sampel", "x"], r"error: COMMAND is 'sampel', and not one of report, timeline, .*, explain; did you mean sample\?"),
+        (["sampel", "x"], r"error: COMMAND is 'sampel', and not one of new, import, .*, explain; did you mean sample\?"),
         (["Report", "x"], r"error: COMMAND is 'Report', and not one of .*; did you mean report\?"),
         (["quux"], r"error: COMMAND is 'quux', and not one of [a-z, ]*\n$"),
         (["sample", "x", "--sed", "3"], r"usage: python3 -m foldcairn sample .*error: '--sed' is no word of this command; did you mean --seeds\?"),
@@ -125,7 +125,7 @@ def test_settings_that_are_none(settings: str, says: str, tmp_path: Path, capsys
 
 def ended(words: list[str], **given: object) -> subprocess.CompletedProcess[bytes]:
     """A process of its own, whose standard output is as given."""
-    environment = {**os.environ, "PYTHONPATH": str(Path(program.__file__).parents[1])}
+    environment = {**os.environ, "PYTHONPATH": str(Path(program.__file__).parents[2])}
     return subprocess.run([sys.executable, "-m", "foldcairn", *words], stderr=subprocess.PIPE, env=environment, **given)  # type: ignore[call-overload]
 
 
@@ -158,7 +158,7 @@ def test_outputs_that_break(capsys: pytest.CaptureFixture[str], monkeypatch: pyt
 
 
 def test_a_stop_while_the_libraries_are_read() -> None:
-    source = Path(program.__file__).parents[1]
+    source = Path(program.__file__).parents[2]
     code = (
         "import runpy, sys\n"
         "class Stop:\n"
@@ -179,8 +179,9 @@ def test_networks_are_drawn_by_a_seed(tmp_path: Path, capsys: pytest.CaptureFixt
         status, _, err = said([command, str(NETWORK), "-o", output, "--seed", "8"], capsys)
         assert status == 0 and "seed" not in err
         written = (tmp_path / output).read_bytes()
-        (tmp_path / "drawn.scenario").write_text(losses.draw(Scenario.read(NETWORK), 8).text(warn=False))
-        assert said([command, "drawn.scenario", "-o", "y" + output[1:]], capsys)[0] == 0 and (tmp_path / ("y" + output[1:])).read_bytes() == written
+        for seed, is_same in (("8", True), ("9", False)):
+            assert said([command, str(NETWORK), "-o", "y" + output[1:], "--seed", seed], capsys)[0] == 0
+            assert ((tmp_path / ("y" + output[1:])).read_bytes() == written) == is_same
         status, _, err = said([command, str(NETWORK), "-o", output], capsys)
         assert status == 0 and "warning: the losses are drawn by seed 1, which is one of many; --seed N takes another, and `sample` says" in err
         status, _, err = said([command, str(LINE), "-o", output, "--seed", "1"], capsys)
@@ -192,6 +193,8 @@ def test_losses_of_a_network_that_do_not_fit(capsys: pytest.CaptureFixture[str],
     def draw(*_: object, **__: object) -> None:
         raise losses.TooManyLosses(7, 19_000)
 
+    # A program without the words `run SEED` and `log SEED` has its losses drawn first.
+    monkeypatch.setattr(running, "takes_seed", lambda: False)
     monkeypatch.setattr(losses, "draw", draw)
     status, _, err = said(["timeline", str(NETWORK), "--seed", "1"], capsys)
     assert status == 1 and "they are used up in frame 7: shorten the run to 7 frames" in err

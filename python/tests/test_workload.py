@@ -6,8 +6,10 @@ import pandas as pd
 import pytest
 from networks import FAILOVER, log_of
 
-from foldcairn import happens, page, plot, workload
-from foldcairn.scenario import Scenario, line
+from foldcairn.answers import happens, workload
+from foldcairn.draw import plot
+from foldcairn.model.scenario import Scenario, line
+from foldcairn.pages import page
 
 NODES = {node: 0 for node in range(1, 9)}
 
