@@ -4,8 +4,8 @@ PROGRAM = bin/foldcairn-x86_64-linux
 PLAN = bin/foldcairn-plan-x86_64-linux
 IN_CRATE = cd crates/$(or $(CRATE),$(error name a crate: make $@ CRATE=link_trace)) &&
 
-.PHONY: help check only try tests test format edits crate gate store program python lint pages words pictures crates lemmas calls costs bench
-.PHONY: wheel deb rust wasm export release install-tests notebook instructions
+.PHONY: help check only try tests test format edits crate gate store program python lint pages words pictures crates lemmas calls reading costs bench
+.PHONY: wheel deb rust wasm module export release install-tests notebook instructions
 
 help: # lists the targets
 	@grep -E '^[a-z-]+:' Makefile
@@ -68,10 +68,13 @@ rust: # writes the proved sources as a Cargo workspace of ordinary Rust into dis
 wasm: # builds both programs as one WebAssembly module, with its JavaScript, in dist/wasm
 	tools/setup-rust.sh && python3 tools/export dist/workspace && tools/wasm.sh dist/workspace dist/wasm
 
+module: wasm # builds the WebAssembly module, and stores it in bin/ for the planner's page: after 'make store'
+	install -m 644 dist/wasm/foldcairn.wasm bin/foldcairn.wasm
+
 export: # exports the proved sources as Rust, builds them, and compares what they write with the stored programs'
 	tests/export.sh quick
 
-release: # builds the wheel, the Debian package, the workspace and the tarball of the sources in dist/, with their checksums
+release: # builds the wheel, the Debian package, the workspace, the planner's page and the tarball of the sources in dist/, with their checksums
 	tools/package.sh release
 
 install-tests: # tries what is built to be installed, README.md's commands in a Debian made from nothing, and the export on more texts: as root, some 30 minutes
@@ -81,9 +84,9 @@ install-tests: # tries what is built to be installed, README.md's commands in a 
 notebook: # writes examples/planning.ipynb from the code of PLANNING.md again
 	tools/notebook.py docs/PLANNING.md > examples/notebook && mv examples/notebook examples/planning.ipynb
 
-pictures: # draws the pictures of docs/ again, and writes what the code of PLANNING.md prints
+pictures: # draws the pictures of docs/ again, and writes what the Python of PLANNING.md and FROM-A-TESTBED.md prints
 	$$(tools/setup-python.sh --print) tools/pictures.py $(PROGRAM) docs/pictures
-	FOLDCAIRN=$(abspath $(PROGRAM)) PYTHONPATH=python/src $$(tools/setup-python.sh --print) python/tests/pages.py docs/PLANNING.md
+	FOLDCAIRN=$(abspath $(PROGRAM)) PYTHONPATH=python/src $$(tools/setup-python.sh --print) python/tests/pages.py docs/PLANNING.md docs/FROM-A-TESTBED.md
 
 crates: # writes again what pages say of each crate: its README.md, ARCHITECTURE.md, FILES.md and GUARANTEES.md
 	tools/crates.py
@@ -93,6 +96,9 @@ lemmas: # lists the lemmas that crates keep for those above them in docs/interna
 
 calls: # lists all public calls with their contracts again
 	tools/calls.py > docs/internals/CALLS.md
+
+reading: # writes again which definitions a reader has to agree with, in docs/READING.md
+	python3 tools/reading > docs/page && mv docs/page docs/READING.md
 
 costs: # runs the proofs, tests and edits of all crates from nothing, and writes what they cost in docs/internals/PROOFS.md
 	tools/gate_costs.py --table docs/internals/PROOFS.md rt ci --anew

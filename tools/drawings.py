@@ -7,7 +7,9 @@ from matplotlib.figure import Figure
 from matplotlib.patches import ConnectionPatch, Patch, Rectangle
 
 import crates
-from foldcairn import lines, plot, rounds, style, timing
+from foldcairn.answers import rounds, timing
+from foldcairn.draw import plot, style
+from foldcairn.model import lines
 
 WIDTH = 11.0
 MILLISECOND = 64_000

@@ -21,11 +21,14 @@ say() {
     echo "foldcairn: $*"
 }
 
-# Which pages have the lines of the input of a command.
+# WORD..: which pages have the lines of the input of a command. With a number after the word it reads a network.
 pages() {
+    case "$1 ${2-}" in
+        run\ [0-9]* | log\ [0-9]*) set -- outcome ;;
+    esac
     case $1 in
         deadlines) echo "$docs/DEADLINES.md has" ;;
-        draw | fates | outcome | sample) echo "$docs/SCENARIO.md and $docs/RATIOS.md have" ;;
+        bounds | draw | fates | outcome | sample) echo "$docs/SCENARIO.md and $docs/RATIOS.md have" ;;
         check) echo "$docs/SCENARIO.md and $docs/CHECK.md have" ;;
         *) echo "$docs/SCENARIO.md has" ;;
     esac
@@ -33,13 +36,13 @@ pages() {
 
 # COMMAND: what is wrong with a line of the input, by this copy's Python package, which says it in one place for its own calls too.
 explanation() {
-    "$top/tools/in_python.sh" foldcairn.faults "$1" "$number" "$kind" < "$input" 2>/dev/null || echo "line $number: $kind"
+    "$top/tools/in_python.sh" foldcairn.model.faults "$1" "$number" "$kind" < "$input" 2>/dev/null || echo "line $number: $kind"
 }
 
 # The first rejected line, as the program says it once more.
 rejected() {
     if [ -z "$input" ]; then
-        say "the input was rejected; the line above names the line and the kind of fault ($(pages "$1") the ranges)"
+        say "the input was rejected; the line above names the line and the kind of fault ($(pages "$@") the ranges)"
         return
     fi
     fault=$("$program" "$@" < "$input" | head -n 1)
@@ -47,7 +50,7 @@ rejected() {
     kind=${number#*: }
     number=${number%%:*}
     case $fault in
-        "fault line "*) say "$(explanation "$1")" && say "$(pages "$1") all lines with their ranges" ;;
+        "fault line "*) say "$(explanation "$1")" && say "$(pages "$@") all lines with their ranges" ;;
         *) say "the input has more than 4,194,304 bytes" ;;
     esac
 }

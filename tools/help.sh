@@ -69,7 +69,8 @@ rows ''
 cat <<TEXT
 
 'draw' and 'sample' with a number after the word are commands of a program, else of the Python package: 'sample 7 2 FILE' writes
-what is counted of two seeds, and 'sample FILE --seeds 200' tables of 200.
+what is counted of two seeds, and 'sample FILE --seeds 200' tables of 200. 'run' and 'log' with a number after the word run a network
+with its ratios, by that seed.
 
 The input is FILE, or the standard input where no file is named. An example:
 

@@ -1,7 +1,7 @@
 #!/bin/sh
 # Runs a module of this copy's Python package, and never that of another copy, by a Python that has what it needs: that which
 # FOLDCAIRN_PYTHON names, else Debian's or that of the PATH. Where there is none it says what is missing, with status 127.
-# Usage: tools/in_python.sh foldcairn | foldcairn.faults [WORD..]
+# Usage: tools/in_python.sh foldcairn | foldcairn.model.faults [WORD..]
 set -u
 top=$(cd "$(dirname "$0")/.." && pwd) || exit 1
 commands=$top/tools/commands.txt
@@ -18,7 +18,7 @@ say() {
 # Puts the folder of the package before all others: that of a clone, that above what a wheel installed, or Debian's.
 find_package() {
     for folder in "$top/python/src" "$top/../.." "$top/../python3/dist-packages"; do
-        if [ -f "$folder/foldcairn/faults.py" ]; then
+        if [ -f "$folder/foldcairn/model/faults.py" ]; then
             PYTHONPATH=$(cd "$folder" && pwd)${PYTHONPATH:+:$PYTHONPATH}
             export PYTHONPATH
             return

@@ -32,6 +32,8 @@ copy_programs() {
 mkdir -p "$folder" && cd "$folder" && folder=$PWD || exit 1
 mkdir bin tools docs docs/pictures docs/pictures/planning examples || exit 1
 copy_programs || exit 1
+# The programs as WebAssembly, for the planner's page, with the script that calls them.
+install -m 644 "$top/bin/foldcairn.wasm" "$top/tools/export/wasm/foldcairn.js" bin || exit 1
 install -m 755 "$top/foldcairn" . || exit 1
 install -m 644 "$top/VERSION" . || exit 1
 install -m 644 "$top/bin/SOURCES" bin || exit 1
@@ -43,6 +45,6 @@ if [ -n "$place" ]; then
     echo "$place" > tools/place || exit 1
 fi
 install -m 644 "$top"/docs/*.md docs || exit 1
-install -m 644 "$top"/docs/pictures/*.svg docs/pictures || exit 1
+install -m 644 "$top"/docs/pictures/*.svg "$top"/docs/pictures/*.png docs/pictures || exit 1
 install -m 644 "$top"/docs/pictures/planning/*.svg docs/pictures/planning || exit 1
 find "$top/examples" -maxdepth 1 -type f -exec install -m 644 -t examples {} +

@@ -1,12 +1,13 @@
 #!/bin/sh
-# Checks what no test runs: the types of the Python package and of the exporter by mypy --strict, unused and undefined names, forms and
+# Checks what no test runs: the types of the Python package, the exporter and tools/reading by mypy --strict, unused and undefined names, forms and
 # line lengths of all Python by ruff, the shell scripts by shellcheck, and by tools/tidy.py the line lengths of .rt and .antt files and
-# what crates.txt lists without need. Debian 12 has no ruff: where it is missing, pyflakes and pycodestyle check the same rules (those of
-# [tool.ruff.lint] in python/pyproject.toml).
+# what crates.txt lists without need. The docstrings of the package's public functions are checked by numpydoc's validation, and
+# tools/docstrings.py says of which modules and by which checks. Debian 12 has no ruff: where it is missing, pyflakes and pycodestyle check
+# the same rules (those of [tool.ruff.lint] in python/pyproject.toml).
 #
 # Usage: tools/lint.sh
 #
-# Status 0 if nothing is wrong; 1 if something is, or a program is missing: Debian's packages are mypy, python3-pyflakes,
+# Status 0 if nothing is wrong; 1 if something is, or a program is missing: Debian's packages are mypy, python3-numpydoc, python3-pyflakes,
 # python3-pycodestyle and shellcheck, which `tools/setup-python.sh --optional` installs. Tested, not proved.
 set -u
 
@@ -20,8 +21,9 @@ run() {
 
 # Types, from the folder that has the settings.
 (cd python && "$python" -m mypy) || failed=1
-# The modules of the exporter are imported by their names.
+# These modules are imported by their names.
 (cd tools/export && "$python" -m mypy --strict --cache-dir=/dev/null ./*.py tests/*.py) || failed=1
+(cd tools/reading && "$python" -m mypy --strict --cache-dir=/dev/null ./*.py) || failed=1
 
 sources=$(git ls-files '*.py')
 if command -v ruff >/dev/null 2>&1; then
@@ -34,6 +36,16 @@ else
     # W503 and W504 say the opposite of each other, and ruff has neither. The head of a page is one line a paragraph.
     # shellcheck disable=SC2086
     run "$python" -m pycodestyle --select=E4,E5,E7,E9,W1,W2,W3,W6 --max-line-length=160 --exclude=tools/calls.py,tools/words.py $sources
+fi
+
+# Docstrings of what `__all__` of the public modules names: foldcairn, foldcairn.planning and foldcairn.results.
+run "$python" tools/docstrings.py
+
+# The modules of the planner's page: their types, and what is unused. (Debian's eslint 6 does not read this JavaScript.)
+if command -v tsc >/dev/null 2>&1; then
+    run tsc -p python/src/foldcairn/studio/page/tsconfig.json
+else
+    echo "tools/lint.sh: there is no tsc (Debian's node-typescript), so the modules of the planner's page are not checked"
 fi
 
 # Those that other scripts read have the variables of these, and [ a -ot b ] is in all shells of Debian.

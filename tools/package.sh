@@ -5,7 +5,8 @@
 #   wheel     foldcairn-VERSION-py3-none-manylinux_2_34_x86_64.whl
 #   deb       that, and foldcairn_VERSION_amd64.deb, which has the package of the wheel for Debian's Python
 #   rust      foldcairn-rust-VERSION.tar.gz: the proved sources as a Cargo workspace, by tools/export
-#   release   all of them, foldcairn-VERSION.tar.gz with the sources, and SHA256SUMS; the last commit has to have all changes
+#   release   all of them, foldcairn-VERSION.tar.gz with the sources, studio.html (the planner's page with its example, for who installs
+#             nothing), and SHA256SUMS; the last commit has to have all changes
 # tools/setup-packaging.sh installs what it needs; the workspace needs Python alone.
 set -u
 umask 022
@@ -107,7 +108,7 @@ Maintainer: $maintainer
 Installed-Size: $(find "$root/usr" -type f -printf '%s\n' | awk '{ size += int(($1 + 1023) / 1024) } END { print size }')
 Depends: libc6 (>= 2.34), python3 (>= 3.11), $(debian_packages 2)
 Recommends: $(debian_packages 3)
-Suggests: python3-distributed, wireshark
+Suggests: python3-distributed, python3-openpyxl, python3-optuna, wireshark
 Section: science
 Priority: optional
 Description: simulator of Glossy floods and a low-power wireless bus
@@ -144,11 +145,17 @@ build_rust() {
         gzip -9n > "$folder/$name.tar.gz"
 }
 
+build_page() {
+    PYTHONDONTWRITEBYTECODE=1 PYTHONPATH=$tree/python/src FOLDCAIRN_WASM=$work/module "$python" -m foldcairn studio -o "$folder/studio.html" >"$work/log"
+}
+
 build_release() {
     [ -z "$(git -C "$top" status --porcelain)" ] || ends "the last commit has not all changes: commit them first"
+    mkdir "$work/module" && cp "$tree/bin/foldcairn.wasm" "$tree/tools/export/wasm/foldcairn.js" "$work/module" || exit 1
+    build_page || ends "the planner's page could not be written"
     git -C "$top" -c tar.umask=0022 archive --format=tar --prefix="foldcairn-$version/" HEAD | gzip -9n > "$folder/foldcairn-$version.tar.gz"
     (cd "$folder" && LC_ALL=C sha256sum "foldcairn-$version.tar.gz" foldcairn-"$version"-py3-*.whl "foldcairn-rust-$version.tar.gz" \
-        "foldcairn_${version}_amd64.deb") > "$work/sums"
+        "foldcairn_${version}_amd64.deb" studio.html) > "$work/sums"
     mv "$work/sums" "$folder/SHA256SUMS"
 }
 

@@ -20,7 +20,10 @@ try:
     import matplotlib
 
     import drawings
-    from foldcairn import planning, plot, results, style, timing
+    from foldcairn import planning
+    from foldcairn.answers import timing
+    from foldcairn.draw import plot, style
+    from foldcairn.runs import results
 except ModuleNotFoundError as error:
     sys.exit(f"tools/pictures.py: {sys.executable} lacks the module {error.name}; tools/setup-python.sh installs what is needed")
 

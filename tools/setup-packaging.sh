@@ -7,7 +7,7 @@ set -u
 
 packages='git gzip dpkg help2man python3 python3-hatchling'
 for_quick='fish lintian man-db python3-jinja2 python3-matplotlib python3-networkx python3-pandas python3-pip python3-plotly
-    python3-statsmodels python3-tqdm python3-venv unzip zsh'
+    python3-statsmodels python3-tomlkit python3-tqdm python3-venv unzip zsh'
 for_all='debootstrap jupyter-nbconvert python3-ipykernel'
 check=
 for word; do

@@ -1,8 +1,9 @@
 #!/bin/sh
 # Installs what the Python package in python/ needs: Debian's packages of pandas, networkx, matplotlib, plotly,
-# jinja2, tqdm, scipy, statsmodels, pytest and hypothesis, for Debian's /usr/bin/python3. With --optional it also installs what only some tests
-# and `make lint` need: chromium and tshark, which open the pages and the captures that the package writes, distributed (Dask),
-# pytest-cov, mypy, pyflakes, pycodestyle and shellcheck, and valgrind, which counts instructions. Tests that need one of them are skipped
+# jinja2, tqdm, scipy, statsmodels, tomlkit, pytest and hypothesis, for Debian's /usr/bin/python3. With --optional it also installs what only some tests
+# and `make lint` need: chromium and tshark, which open the pages and the captures that the package writes, nodejs, which runs modules of the
+# planner's page, distributed (Dask), optuna and openpyxl, which large searches and tables for Excel use,
+# pytest-cov, mypy, numpydoc, pyflakes, pycodestyle and shellcheck, and valgrind, which counts instructions. Tests that need one of them are skipped
 # where it is missing, and say so.
 #
 # Usage: tools/setup-python.sh [--check | --print | --optional]
@@ -14,10 +15,10 @@
 # other words. Tested, not proved.
 set -u
 
-modules='pandas networkx matplotlib plotly jinja2 tqdm scipy statsmodels pytest hypothesis'
+modules='pandas networkx matplotlib plotly jinja2 tqdm scipy statsmodels tomlkit pytest hypothesis'
 # Programs and modules that only some tests and the checks of `make lint` use; a program has the name of its Debian package.
-programs='chromium tshark shellcheck valgrind'
-optional='distributed pytest_cov mypy pyflakes pycodestyle'
+programs='chromium nodejs tshark shellcheck valgrind'
+optional='distributed optuna openpyxl pytest_cov mypy numpydoc pyflakes pycodestyle'
 debian=/usr/bin/python3
 
 say() {

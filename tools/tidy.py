@@ -1,5 +1,6 @@
 #!/usr/bin/env python3
-"""Finds lines of .rt and .antt files that are longer than 160 columns, and libraries in crates.txt that their crate does not cite.
+"""Finds lines of .rt and .antt files, and of the page's modules, that are longer than 160 columns, modules of more than 300 lines, and
+libraries in crates.txt that their crate does not cite.
 
 Usage: tools/tidy.py. Lines that have to be longer are counted in KNOWN_LINES. The status is 1 if there is something else.
 Only Python's standard library is used.
@@ -11,6 +12,9 @@ import sys
 
 TOP = pathlib.Path(__file__).resolve().parent.parent
 COLUMNS = 160
+LINES = 300
+# The modules of the planner's page.
+MODULES = TOP / "python/src/foldcairn/studio/page/js"
 # How many longer lines a file has: this one is a name that the prover gives.
 KNOWN_LINES = {"crates/schedule_codec/proofs/decode/spelled/Answers.antt": 1}
 
@@ -49,6 +53,10 @@ def main():
         words = cited(paths)
         found["listed in crates.txt, and not cited"] += [f"{crate}: {library}" for library in libraries
                                                          if library not in words]
+    for path in sorted(MODULES.glob("*.js")):
+        found[f"longer than {COLUMNS} columns"] += [f"{path.relative_to(TOP)}:{number}" for number in long_lines(path)]
+        if len(path.read_text().splitlines()) > LINES:
+            found[f"more than {LINES} lines"].append(str(path.relative_to(TOP)))
     for what, places in found.items():
         for place in places:
             print(f"{place}: {what}")

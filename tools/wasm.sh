@@ -9,7 +9,7 @@ mkdir -p "${2:?the folder}"
 folder=$(cd "$2" && pwd)
 profile=${3:-release}
 target=wasm32-unknown-unknown
-"$top/tools/rust-sysroot.sh" "$target" "$folder/sysroot" z
+"$top/tools/rust-sysroot.sh" "$target" "$folder/sysroot" 3
 cd "$workspace/wasm"
 RUSTC=/usr/bin/rustc RUSTFLAGS="-D warnings --sysroot $folder/sysroot -C linker=wasm-ld -C linker-flavor=wasm-ld -C strip=symbols" \
     /usr/bin/cargo build --offline --quiet --config 'source.crates-io.replace-with="debian"' \

@@ -19,8 +19,9 @@ use rattle_std::prelude::rattle::{String as Word, Vec as Words};
 #[global_allocator]
 static HEAP: Heap = Heap::new();
 
-// The commands of the second program.
-const PLANNERS: [&str; 4] = ["draw", "outcome", "fates", "sample"];
+// The commands of the second program, and those that are its own with a number after them.
+const PLANNERS: [&str; 5] = ["bounds", "draw", "outcome", "fates", "sample"];
+const SEEDED: [&str; 2] = ["run", "log"];
 // As the programs have them.
 const OUT_OF_MEMORY: u32 = 5;
 const NOT_UTF8: u32 = 6;
@@ -79,6 +80,13 @@ fn words_of(spelled: &[u8]) -> Result<Option<Words<Word>>, AllocError> {
     Ok(Some(words))
 }
 
+fn is_planners(words: &[Word]) -> bool {
+    let is_number = |word: &Word| !word.as_str().is_empty() && word.as_str().bytes().all(|byte| byte.is_ascii_digit());
+    words.first().is_some_and(|word| {
+        PLANNERS.contains(&word.as_str()) || SEEDED.contains(&word.as_str()) && words.get(1).is_some_and(is_number)
+    })
+}
+
 fn answer(spelled: &[u8], input: &[u8], output: &mut Output) -> u32 {
     let words = match words_of(spelled) {
         Ok(Some(words)) => words,
@@ -86,7 +94,7 @@ fn answer(spelled: &[u8], input: &[u8], output: &mut Output) -> u32 {
         Err(AllocError) => return OUT_OF_MEMORY,
     };
     let mut source = Input(input);
-    if words.first().is_some_and(|word| PLANNERS.contains(&word.as_str())) {
+    if is_planners(&words) {
         return u32::from(plan_tool::plan_top(Global, &words, &mut source, output));
     }
     u32::from(replay_tool::top(Global, &words, &mut source, output).status)
