@@ -5,9 +5,12 @@
 #   its output compared to the byte. No command goes on in a second line, so that each can be copied.
 # - a block `text NAME`, NAME having a dot, is put into the file NAME for the commands below it.
 # - a block `sh` is not run, since it asks for a network, another machine or much time; only its grammar is tried.
+# Commands of the Python package, new, verify, search, failures and relays, are run where a Python has what the package needs, and else left
+# out.
 # Each page has a folder of its own, with the program as ./foldcairn and with bin, examples, tools and bench next to it. Where
-# python3 is there, the crates and the public calls are listed once more, and compared too; and the words of the pages are
-# counted. Where it has matplotlib in the version of the stored pictures, these are drawn once more, and compared.
+# python3 is there, the crates, the public calls and what has to be read are listed once more, and compared too; and the words of
+# the pages are counted. Where it has matplotlib in the version of the stored pictures, these are drawn once more, and compared.
+# What pages show of the Python package asks for what tools/setup-python.sh installs.
 # Usage: tests/documents.sh PROGRAM [PAGE ..]. The last line is 'N passed, M failed', and the status is 0 where M is 0.
 set -u
 top=$(cd "$(dirname "$0")/.." && pwd) || exit 1
@@ -31,8 +34,18 @@ counts_failure() {
 begin_page() {
     here=$folder/page-$1
     mkdir "$here"
-    printf '#!/bin/sh\ncase ${1-} in draw | fates | outcome | sample) exec "%s" "$@" ;; *) exec "%s" "$@" ;; esac\n' \
-        "$top/bin/foldcairn-plan-x86_64-linux" "$program" > "$here/foldcairn"
+    # The front end that users call compares checksums of the sources first; this one hands words on alone.
+    cat > "$here/foldcairn" << END
+#!/bin/sh
+case \${1-}:\${2-} in
+    run:[0-9]* | log:[0-9]*) exec "$top/bin/foldcairn-plan-x86_64-linux" "\$@" ;;
+esac
+case \${1-} in
+    bounds | draw | fates | outcome | sample) exec "$top/bin/foldcairn-plan-x86_64-linux" "\$@" ;;
+    failures | new | relays | search | sweep | verify) FOLDCAIRN=$program exec "$top/tools/in_python.sh" foldcairn "\$@" ;;
+    *) exec "$program" "\$@" ;;
+esac
+END
     chmod +x "$here/foldcairn"
     for name in bin examples tools bench tests docs; do
         ln -s "$top/$name" "$here/$name"
@@ -58,6 +71,11 @@ runs() {
 
 # The command that waits, if there is one, is run once its output is known.
 run_waiting() {
+    case $command in
+        './foldcairn failures '* | './foldcairn new '* | './foldcairn relays '* | './foldcairn search '* | './foldcairn verify '*)
+            [ -n "$package" ] || command=
+            ;;
+    esac
     if [ -n "$command" ]; then
         runs "$page:$place" "$command"
     fi
@@ -260,6 +278,36 @@ names() {
     fi
 }
 
+# Each sentence of README.md that GUARANTEES.md gives a clause is to be there, with its clause and its edit. A table in which one of the
+# three is another is found.
+promises() {
+    local copy=$folder/promises change
+    if ! command -v python3 > "$folder/written"; then
+        return
+    fi
+    if python3 "$top/tools/promises.py" > "$folder/written"; then
+        counts_pass
+    else
+        counts_failure "GUARANTEES.md has a sentence, a clause or an edit that is not there"
+        cat "$folder/written"
+    fi
+    mkdir "$copy"
+    cp --parents -r README.md tools/promises.py docs/GUARANTEES.md crates/*/src crates/*/must-fail tests/edits "$copy"
+    # shellcheck disable=SC2016 # A page's text.
+    for change in 's/^| 18 frames from it/| 17 frames from it/' 's/`takeover_frames` in `law_times` |/`gone_frames` in `law_times` |/' \
+        's/clauses `fault` and `complete` |/clauses `fault` and `gone` |/' 's,`law_times/takeover_a_frame_sooner`:,`law_times/gone`:,'; do
+        sed "$change" docs/GUARANTEES.md > "$copy/docs/GUARANTEES.md"
+        if python3 "$copy/tools/promises.py" > "$folder/written"; then
+            counts_failure "tools/promises.py accepts a table after: $change"
+        elif [ "$(wc -l < "$folder/written")" -eq 2 ]; then
+            counts_pass
+        else
+            counts_failure "tools/promises.py says something else after: $change"
+            cat "$folder/written"
+        fi
+    done
+}
+
 # The list of public calls is to be what the sources have, and no call may leave its answers or its changes unsaid.
 calls() {
     if ! command -v python3 > "$folder/written"; then
@@ -274,6 +322,38 @@ calls() {
         counts_pass
     else
         counts_failure "a public call leaves something unsaid"
+        cat "$folder/written"
+    fi
+}
+
+# The definitions that a reader has to agree with are to be what the sources have. In a copy a definition is one line longer, and
+# another one names what is nowhere.
+reading() {
+    local copy=$folder/reading
+    if ! command -v python3 > "$folder/written"; then
+        return
+    fi
+    if python3 "$top/tools/reading" 2> "$folder/written" | cmp -s - "$top/docs/READING.md"; then
+        counts_pass
+    else
+        counts_failure "docs/READING.md is not what tools/reading writes: make reading"
+        cat "$folder/written"
+    fi
+    mkdir "$copy"
+    cp --parents -r crates.txt tools/reading crates/*/specs crates/*/src "$copy"
+    sed -i 's/^airtime p n = /airtime p n =\n    /' "$copy/crates/lwb_base/specs/Profile.antt"
+    if python3 "$copy/tools/reading" 2> "$folder/written" | cmp -s - "$top/docs/READING.md"; then
+        counts_failure "tools/reading does not see that a definition has grown"
+    else
+        counts_pass
+    fi
+    sed -i 's/(n + 8) \* p\.byte/(n + 8) * byte_of p/' "$copy/crates/lwb_base/specs/Profile.antt"
+    if python3 "$copy/tools/reading" > "$folder/counted" 2> "$folder/written"; then
+        counts_failure "tools/reading accepts a name that is nowhere"
+    elif grep -q 'Profile.antt:[0-9]*: what is byte_of?' "$folder/written"; then
+        counts_pass
+    else
+        counts_failure "tools/reading says something else of a name that is nowhere"
         cat "$folder/written"
     fi
 }
@@ -309,6 +389,7 @@ words() {
 }
 
 cd "$top" || exit 1
+package=$(tools/setup-python.sh --print 2> "$folder/written") || echo "commands of the Python package are left out"
 if [ $# -eq 0 ]; then
     set -- README.md CONTRIBUTING.md SECURITY.md docs/*.md docs/internals/*.md docs/internals/proofs/*.md crates/*/README.md
     pictures
@@ -316,6 +397,8 @@ if [ $# -eq 0 ]; then
     crate_pages
     names
     calls
+    reading
+    promises
     words
 fi
 for one; do

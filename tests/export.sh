@@ -83,7 +83,7 @@ package_finds() {
 import pathlib
 import sys
 
-from foldcairn import program
+from foldcairn.runs import program
 
 folder = pathlib.Path(sys.argv[1])
 assert program.find() == folder / "foldcairn", program.find()
@@ -116,6 +116,16 @@ wasm_builds() {
     "$top/tools/wasm.sh" "$out" "$folder/wasm"
 }
 
+# The module that is stored for the planner's page writes what the stored programs write. Its bytes are not compared with those of the one
+# that was built: in which order rustc lays functions out depends on the folder in which it builds.
+wasm_stored() {
+    mkdir "$folder/module" && cp "$top/bin/foldcairn.wasm" "$top/tools/export/wasm/foldcairn.js" "$folder/module" || return
+    "$python" "$top/tests/same_bytes.py" --through "node $top/tests/wasm_cases.mjs $folder/module" --random 1 || {
+        echo "bin/foldcairn.wasm is not of this tree: run 'make module', and commit bin/"
+        return 1
+    }
+}
+
 wasm_bytes() {
     "$python" "$top/tests/same_bytes.py" --through "node $top/tests/wasm_cases.mjs $folder/wasm" --random "$wasm_seeds"
 }
@@ -138,12 +148,13 @@ on_arm64() {
 
 # Rust's own library for both other machines is built beside the rest.
 libraries() {
-    "$top/tools/rust-sysroot.sh" wasm32-unknown-unknown "$folder/wasm/sysroot" z
+    "$top/tools/rust-sysroot.sh" wasm32-unknown-unknown "$folder/wasm/sysroot" 3
     "$top/tools/rust-sysroot.sh" thumbv7em-none-eabi "$folder/firmware/sysroot" s
 }
 
 in_wasm() {
     says "the module" wasm_builds || return
+    says "the stored module" wasm_stored
     says "the same bytes in WebAssembly" wasm_bytes
     says "the module in JavaScript" wasm_module
     if command -v chromium > "$folder/found"; then

@@ -131,7 +131,11 @@ front_end_sentences() {
     printf 'frames 6\n%sratios\nratio 0 1 2 5\n' "$base" > "$folder/small.network"
     for word in run log times return bus check; do
         front "$word" small.network
-        explains "ratios for $word" 1 $'fault line 7: BadWord\n' "for $word, draw the losses of a seed first, by \`foldcairn draw SEED FILE\`"
+        case $word in
+            run | log) told="for $word, give a seed, by \`foldcairn $word --seed N FILE\`, or draw the losses of a seed first" ;;
+            *) told="for $word, draw the losses of a seed first, by \`foldcairn draw SEED FILE\`" ;;
+        esac
+        explains "ratios for $word" 1 $'fault line 7: BadWord\n' "$told"
         front "$word" nowhere.scenario
         explains "$word of no file" 3 "" "there is no file 'nowhere.scenario'"
         front "$word" "$top"
@@ -343,6 +347,13 @@ front_end_draws() {
         explains "a seed with a leading zero" 2 "$(cat "$folder/out")"$'\n' "SEED first"
         front outcome 7 line.flood
         explains "a text that is no network" 1 $'fault line 7: BadWord\n' 'line 7: `start 1`'
+        for words in "--seed 7 line.flood" "line.flood --seed 7" "--seed=7 line.flood"; do
+            # shellcheck disable=SC2086
+            front outcome $words
+            explains "outcome by '$words'" 1 $'fault line 7: BadWord\n' 'line 7: `start 1`'
+        done
+        front outcome line.flood --seed x
+        explains "a seed that is no number" 2 "$(cat "$folder/out")"$'\n' "SEED first, a number from 0 to 9999999999999 without leading zeros, and not 'x'"
         printf 'frames 4096\n%s' "$base" > "$folder/long.network"
         for node in 3 4 5 6; do echo "node $node 0"; done >> "$folder/long.network"
         front draw 7 long.network
@@ -370,6 +381,11 @@ front_end_draws() {
     ends "outcome of a file" 0 "outcome 7"$'\n'"$line"
     front outcome 7 < <(cat "$folder/line.flood")
     ends "outcome of a pipe" 0 "outcome 7"$'\n'"$line"
+    for words in "--seed 7 line.flood" "line.flood --seed 7" "--seed=7 line.flood"; do
+        # shellcheck disable=SC2086
+        front outcome $words
+        ends "outcome by '$words'" 0 "outcome 7"$'\n'"$line"
+    done
     front outcome 7 nowhere
     ends "outcome of no file" 0 "outcome 7 nowhere"$'\n'
     front outcome 07 nowhere

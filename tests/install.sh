@@ -58,7 +58,7 @@ releases() {
     [ -z "$(git -C "$top" status --porcelain)" ] || echo "the last commit is tried, without what is not committed" >&2
     says "a release" "$folder/one/tools/package.sh" release
     says "the release of another clone" release_elsewhere
-    for name in $wheel $deb $tarball $rust SHA256SUMS; do
+    for name in $wheel $deb $tarball $rust studio.html SHA256SUMS; do
         says "$name of two clones" cmp "$folder/one/dist/$name" "$folder/the other one/dist/$name"
     done
     dist=$folder/one/dist
@@ -81,7 +81,7 @@ release_elsewhere() {
 }
 
 sums() {
-    (cd "$dist" && sha256sum --check SHA256SUMS && [ "$(wc -l < SHA256SUMS)" -eq 4 ])
+    (cd "$dist" && sha256sum --check SHA256SUMS && [ "$(wc -l < SHA256SUMS)" -eq 5 ])
 }
 
 # An environment that sees Debian's modules, one that has none but pip, and an install of the clone, each without network. The first sees
@@ -122,7 +122,7 @@ explains() {
 # BIN: a command of the package names the modules that the Python of that environment lacks, and no other Python runs another package.
 lacks_modules() {
     "$1/foldcairn" report "$top/examples/$example.scenario" > "$folder/out" 2> "$folder/err"
-    [ $? -eq 127 ] && [ ! -s "$folder/out" ] && grep -q "$1/python.* lacks networkx numpy pandas scipy statsmodels tqdm: .*pip install" "$folder/err" && return
+    [ $? -eq 127 ] && [ ! -s "$folder/out" ] && grep -q "$1/python.* lacks networkx numpy pandas scipy statsmodels tomlkit tqdm: .*pip install" "$folder/err" && return
     cat "$folder/out" "$folder/err"
     return 1
 }
@@ -148,7 +148,7 @@ cuts_help() {
 finds() {
     (cd / && "$1" -c "
 import os, pathlib, foldcairn
-from foldcairn import program
+from foldcairn.runs import program
 os.environ['PATH'] = '/usr/bin:/bin'
 found = program.find()
 assert found == pathlib.Path(foldcairn.__file__).parent / 'installed' / 'foldcairn', found

@@ -15,7 +15,7 @@ trap 'rm -rf "$folder"' EXIT
 . "$top/tests/statuses.sh"
 . "$top/tests/counted_calls.sh"
 
-usage=$'usage: draw SEED | outcome SEED | fates SEED | sample FROM COUNT\n'
+usage=$'usage: draw SEED | outcome SEED | fates SEED | run SEED | log SEED | sample FROM COUNT | bounds\n'
 base=$'sends 2\nnode 1 0\nnode 2 0\nhost 0 1\npair 1 2\n'
 two_on=$'on 0 1\non 0 2\n'
 
@@ -126,6 +126,23 @@ worked_sample() {
     "$program" sample 8 0 < "$line" > "$folder/out"
     status=$?
     ends "no seed" 0 ""
+}
+
+# What holds and what is open was worked out manually. In the first text node 1 fails in frame 6, and node 2 is the last host that is on. In the
+# second the only host goes off three frames after its first boot and six after its second one, and its third is too late for the run. In the
+# third node 1 is on for no frame, and its last off line is too late for node 2. In the fourth node 1 comes back before frame 27.
+worked_bounds() {
+    local two=$'sends 1\nnode 1 0\nnode 2 0\nhost 0 1\nhost 1 2\npair 1 2\n'
+    run_on "${two}frames 40"$'\non 0 1\non 0 2\noff 6 1\nratios\nratio 0 1 2 500000\n' bounds
+    ends "bounds of a host that fails" 0 $'holds first 1 0 5 5\nopen failover 1 power\nholds failover 2 6 27 21\n'
+    run_on $'sends 1\nnode 1 0\nnode 2 0\nhost 0 1\npair 1 2\nframes 20\n# three boots\n\non 0 1\noff 3 1\non 7 1\noff 13 1\non 16 1\n' bounds
+    ends "bounds of a host that boots thrice" 0 $'open first 1 0 power 10\nholds first 1 7 12 5\nopen first 1 16 rounds\nopen failover 1 power\n'
+    run_on "${two}frames 20"$'\non 0 2\non 4 1\noff 4 1\n' bounds
+    ends "bounds of a host that is on for no frame" 0 $'open first 1 boots\nopen failover 1 power\nopen failover 2 4 rounds\n'
+    run_on "${two}frames 60"$'\non 0 1\non 0 2\noff 6 1\non 20 1\n' bounds
+    ends "bounds of a host that comes back" 0 $'holds first 1 0 5 5\nholds first 1 20 25 5\nopen failover 1 power\nopen failover 2 6 power 11\n'
+    run_on "${two}frames 60"$'\non 0 1\non 0 2\noff 6 1\noff 10 2\n' bounds
+    ends "bounds of two hosts that fail" 0 $'holds first 1 0 5 5\nopen failover 1 10 power 10\nopen failover 2 6 power 11\n'
 }
 
 # hosts_of FILE: the rank and the node of each host.
@@ -267,13 +284,93 @@ draws_are_outcomes() {
     done
 }
 
-# Without ratios, and with ratios that lose nothing, the outcome is that of the bus. Nobody hears over links that lose all.
+# The host and node 2 hear each other until frame 5, and from frame 6 on nothing that node 2 transmits arrives at the host. Worked by hand
+# from the log without ratios: the receptions of node 1 are gone from there on, and with them its second transmission of each flood, which
+# answers one, and what node 2 does after that. The first two transmissions of a flood remain, and the packet of node 2 with nobody to
+# receive it. A window in which a node sends once less is over when its time is, 2,096,000 ticks after it opened.
+worked_log() {
+    local two="${base}frames 10"$'\n'"${two_on}"$'stream 0 2 0 4\nput 0 2 0 aa\n'
+    run_on "$two" log 7
+    sed '/^tuned 0 1 2368000000/,$d; /^deliver /d; /^energy /d' "$folder/out" > "$folder/before"
+    says "the log of two nodes has no frame before the losses" [ "$(grep -c '^heard ' "$folder/before")" -eq 9 ]
+    run_on "${two}ratios"$'\nratio 6 2 1 0\n' log 7
+    sed -n '/^tuned 0 1 2368000000/q; /^energy /d; p' "$folder/out" > "$folder/lines"
+    says "losses from frame 6 on change what is before" cmp -s "$folder/before" "$folder/lines"
+    sed -n '/^energy /p; /^tuned 0 1 2368000000/,$p' "$folder/out" > "$folder/lines"
+    mv "$folder/lines" "$folder/out"
+    ends "the log of two nodes, of which one is not heard from frame 6 on" 0 "energy 1 299008 15306368 5 1244106368
+energy 2 333824 15117440 6 1359365760
+tuned 0 1 2368000000 2370096000
+tuned 0 2 2368000000 2370096000
+sent 0 1 2368064000 2368104960 010000000102010004040080
+heard 0 2 1 2368064000 2368104960 010000000102010004040080
+sent 0 2 2368117248 2368158208 010001000102010004040080
+tuned 0 1 2370112000 2372208000
+tuned 0 2 2370112000 2372208000
+sent 0 2 2370176000 2370210816 0201000201000000aa
+tuned 0 1 2372224000 2374320000
+tuned 0 2 2372224000 2374320000
+tuned 0 1 2374336000 2376432000
+tuned 0 2 2374336000 2376432000
+tuned 0 1 2376448000 2378544000
+tuned 0 2 2376448000 2378544000
+tuned 0 1 2378560000 2380656000
+tuned 0 2 2378560000 2380656000
+tuned 0 1 2380672000 2382768000
+tuned 0 2 2380672000 2382768000
+sent 0 1 2380736000 2380776960 010600040100000000040080
+heard 0 2 1 2380736000 2380776960 010600040100000000040080
+sent 0 2 2380789248 2380830208 010601040100000000040080
+"
+    # Clocks at both bounds are at other ticks in each step, and change nothing else.
+    run_on "${two}ratios"$'\nratio 6 2 1 0\n' log 7
+    without_times > "$folder/wanted"
+    run_on "${two/host 0 1/rate 1 0 20
+rate 2 0 -20
+host 0 1}ratios"$'\nratio 6 2 1 0\n' log 7
+    without_times > "$folder/lines"
+    says "clocks at both bounds change who sends or receives what" cmp -s "$folder/wanted" "$folder/lines"
+    says "clocks at both bounds change no time" [ "$(grep -c '^tuned 0 1 2368000000 ' "$folder/out")" -eq 0 ]
+}
+
+# without_times: the entries of the log in $folder/out without their ticks.
+without_times() {
+    awk '$1 == "sent" { print $1, $2, $3, $6 } $1 == "heard" { print $1, $2, $3, $4, $7 } $1 == "deliver"' "$folder/out" | LC_ALL=C sort
+}
+
+# A run delivers and drops what the outcome has, and each radio costs what it has there, but for the time that it is on. The log is the
+# report of the run and the text of its log. The text that draw writes has fewer losses, of the same bus: so there a reception may name
+# another of several equal transmissions, and a node that searches may receive more, but here each node is on from the start, and their
+# clocks are true.
+runs_are_outcomes() {
+    local file seed
+    for file in "$top"/tests/worked/*.network "$top"/examples/*.scenario; do
+        "$program" outcome 3 < "$file" | sed 's/^cost /energy /' > "$folder/wanted"
+        "$program" run 3 < "$file" > "$folder/report"
+        sed 's/^\(energy .*\) [0-9]*$/\1/' "$folder/report" > "$folder/out"
+        says "run of $(basename "$file"): not as outcome" cmp -s "$folder/wanted" "$folder/out"
+        "$program" log 3 < "$file" > "$folder/log"
+        grep -E '^(deliver|drop|energy) ' "$folder/log" > "$folder/out"
+        says "log of $(basename "$file"): another report than that of run" cmp -s "$folder/report" "$folder/out"
+    done
+    for seed in 0 1 2 3 4 5 6 7 8 9; do
+        "$program" log "$seed" < "$top/tests/worked/three-in-a-line.network" | sed 's/^\(heard 0 [0-9]*\) [0-9]*/\1/' > "$folder/wanted"
+        "$program" draw "$seed" < "$top/tests/worked/three-in-a-line.network" | "$first" log | sed 's/^\(heard 0 [0-9]*\) [0-9]*/\1/' > "$folder/out"
+        says "seed $seed: the log of the draw is another" cmp -s "$folder/wanted" "$folder/out"
+    done
+}
+
+# Without ratios, and with ratios that lose nothing, the outcome is that of the bus, and the log that of the run. Nobody hears over links
+# that lose all.
 known_losses() {
     local file
     for file in "$top"/examples/*.scenario "$top"/tests/worked/*.scenario; do
         "$first" bus < "$file" > "$folder/wanted"
         "$program" outcome 7 < "$file" > "$folder/out"
         says "outcome of $(basename "$file"): not as bus" cmp -s "$folder/wanted" "$folder/out"
+        "$first" log < "$file" > "$folder/log"
+        "$program" log 7 < "$file" > "$folder/out"
+        says "log of $(basename "$file") without ratios: not that of its run" cmp -s "$folder/log" "$folder/out"
         {
             cat "$file"
             printf '\nratios\n'
@@ -281,6 +378,8 @@ known_losses() {
         } > "$folder/in"
         "$program" outcome 7 < "$folder/in" > "$folder/out"
         says "outcome of $(basename "$file") with ratios of a million: not as bus" cmp -s "$folder/wanted" "$folder/out"
+        "$program" log 7 < "$folder/in" > "$folder/out"
+        says "log of $(basename "$file") with ratios of a million: not that of its run" cmp -s "$folder/log" "$folder/out"
     done
     run_on "${base}frames 12"$'\n'"${two_on}ratios"$'\nratio 0 1 2 0\n' outcome 0
     says "a link that loses all: node 2 does not scan in all frames" grep -qx 'cost 2 0 0 12' "$folder/out"
@@ -295,7 +394,8 @@ refused_words() {
     for words in outcomes outcome "outcome 7 8" "outcome 07" "outcome -7" "outcome 7x" "outcome 10000000000000" run "sample 7" "sample 7 8 9" "sample 07 1" "sample 7 x" "sample 7 10000000000000" "sample 9999999999999 2" \
         "sample 2 9999999999999" "7 outcome" \
         drawn draw "draw 7 8" "draw 07" "draw 10000000000000" "7 draw" "draw outcome" \
-        fates "fates 7 8" "fates 07" "fates 10000000000000"; do
+        fates "fates 7 8" "fates 07" "fates 10000000000000" \
+        runs "run 7 8" "run 07" "run 10000000000000" "7 run" log logs "log 7 8" "log 07" "log x" "log 10000000000000"; do
         # Each word is one of the program's.
         run_on "$base" $words
         ends "the words '$words'" 2 "$usage"
@@ -313,7 +413,7 @@ refused_words() {
 # rejects NAME LINE KIND TEXT: whether the text's first fault is that, for each command.
 rejects() {
     local word
-    for word in outcome fates draw; do
+    for word in outcome fates draw run log; do
         run_on "$4" "$word" 7
         ends "$word of $1" 1 "fault line $2: $3"$'\n'
     done
@@ -350,12 +450,46 @@ many_nodes() {
     printf 'host 0 1\n'
 }
 
+# offs LINES: a scenario of two nodes with so many script lines, which all but two power node 2 off again. Line n of the script is line 6 + n.
+offs() {
+    printf '%sframes 12\n%s' "$base" "$two_on"
+    yes 'off 0 2' | head -n "$(($1 - 2))"
+}
+
+# As many script lines as a network has, where the first program takes 20,000, and one more.
+script_lines() {
+    local lines=262144 outcome
+    offs 3 > "$folder/in"
+    outcome=$("$program" outcome 7 < "$folder/in")$'\n'
+    offs 20001 > "$folder/in"
+    "$first" run < "$folder/in" > "$folder/out"
+    status=$?
+    ends "20,001 script lines for the first program" 1 $'fault line 20007: TooMany\n'
+    "$program" outcome 7 < "$folder/in" > "$folder/out"
+    status=$?
+    ends "20,001 script lines" 0 "$outcome"
+    offs "$lines" > "$folder/in"
+    "$program" outcome 7 < "$folder/in" > "$folder/out"
+    status=$?
+    ends "$lines script lines" 0 "$outcome"
+    "$program" draw 7 < "$folder/in" > "$folder/out"
+    status=$?
+    ends "a draw of $lines script lines" 1 "fault line $((lines + 7)): TooMany"$'\n'
+    offs "$((lines + 1))" > "$folder/in"
+    "$program" outcome 7 < "$folder/in" > "$folder/out"
+    status=$?
+    ends "one script line more than there may be" 1 "fault line $((lines + 7)): TooMany"$'\n'
+}
+
 # A horizon that the first program refuses, and one node more than may be.
 horizons() {
     many_nodes 4096 > "$folder/in"
     "$program" outcome 7 < "$folder/in" > "$folder/out"
     status=$?
     ends "64 nodes that are off in 4,096 frames" 0 "$(seq -f 'cost %.0f 0 0 0' 64)"$'\n'
+    "$program" log 9999999999999 < "$folder/in" > "$folder/out"
+    status=$?
+    ends "the log of 64 nodes that are off in 4,096 frames" 0 "$(seq -f 'energy %.0f 0 0 0 0' 64)"$'\n'
     echo "node 65 0" >> "$folder/in"
     "$program" outcome 7 < "$folder/in" > "$folder/out"
     status=$?
@@ -477,15 +611,20 @@ statuses() {
     printf '%sframes 12\nput 0 1 0 aa\n' "$base" > "$folder/in"
     by_streams 0 outcome 7
     by_streams 0 fates 7
+    by_streams 0 run 7
+    by_streams 0 log 7
     by_streams 0 sample 7 2
     by_streams 0 draw 7
     printf '%sframes 0\n' "$base" > "$folder/in"
     by_streams 1 outcome 7
     by_streams 1 fates 7
+    by_streams 1 run 7
+    by_streams 1 log 7
     by_streams 1 sample 7 2
     by_streams 1 draw 7
     reads_nothing 2 outcome
     reads_nothing 2 run
+    reads_nothing 2 log
     gives "a word that is no UTF-8, from a folder" 6 "$folder" /dev/null $'\xff'
     head -c 4194305 /dev/zero | tr '\0' '#' > "$folder/long"
     "$program" outcome 7 < "$folder/long" > "$folder/out"
@@ -497,10 +636,11 @@ statuses() {
 # Each command, with the causes of its statuses.
 causes() {
     local word line="$top/tests/worked/three-in-a-line.network"
-    for word in outcome fates draw; do
+    for word in outcome fates draw run log; do
         each_cause "$line" "$word" 7
     done
     each_cause "$line" sample 7 2
+    each_cause "$line" bounds
     each_request 2 /dev/null outcome
 }
 
@@ -508,11 +648,14 @@ causes() {
 by_both() {
     local file word
     for file in "$top"/tests/worked/*.network "$top"/examples/*.scenario; do
-        for word in outcome fates draw; do
+        for word in outcome fates draw run log; do
             "$program" "$word" 7 < "$file" > "$folder/out"
             "$other" "$word" 7 < "$file" > "$folder/other"
             says "$word of $(basename "$file") by both compilers: other bytes" cmp -s "$folder/out" "$folder/other"
         done
+        "$program" bounds < "$file" > "$folder/out"
+        "$other" bounds < "$file" > "$folder/other"
+        says "bounds of $(basename "$file") by both compilers: other bytes" cmp -s "$folder/out" "$folder/other"
     done
 }
 
@@ -522,6 +665,9 @@ worked_fates
 worked_hosts
 fates_are_outcomes
 worked_sample
+worked_log
+runs_are_outcomes
+worked_bounds
 samples_are_fates
 worked_draw
 draws_are_outcomes
@@ -529,6 +675,7 @@ known_losses
 refused_words
 rejected_ratios
 horizons
+script_lines
 draw_horizons
 draw_lines
 many_losses

@@ -3,7 +3,7 @@
 # many passed, which tests were skipped because something optional is missing, and how much processor time all of them took.
 #
 # With CI=true it also installs what is optional and needs all of it: a skipped test fails, and so does a coverage of the
-# package's lines below 99 %. Processor time above 180 s is said in red, and fails nothing (python/tests/gate.py says why).
+# package's lines below 99 %. Processor time above 320 s is said in red, and fails nothing (python/tests/gate.py says why).
 # Usage: tests/python.sh PROGRAM [pytest's words ..]
 set -eu
 top=$(cd "$(dirname "$0")/.." && pwd)

@@ -13,7 +13,7 @@ from collections.abc import Iterator
 import hostile
 
 SCENARIO_WORDS = ["run", "log", "bus", "times", "return"]
-NETWORK_WORDS = ["outcome", "fates", "draw"]
+NETWORK_WORDS = ["outcome", "fates", "run", "log", "draw"]
 
 
 @dataclasses.dataclass(frozen=True)

@@ -31,8 +31,10 @@ from random_texts import Case, drawn, of_network, of_scenario
 TOP = pathlib.Path(__file__).resolve().parent.parent
 PROVED = [TOP / "bin/foldcairn-x86_64-linux", TOP / "bin/foldcairn-plan-x86_64-linux"]
 SECONDS = 120
-# The commands of the second program. What COMMAND runs has both programs in one, and goes by the command.
-PLANNERS = [("draw",), ("outcome",), ("fates",), ("sample",)]
+# The commands of the second program; `run` and `log` are its own with a number after them. What COMMAND runs has both programs in one,
+# and goes by the command.
+PLANNERS = ["draw", "outcome", "fates", "sample"]
+SEEDED = ["run", "log"]
 NO_COMMANDS = [(), ("none",), ("run", "x"), ("outcome",), ("sample", "1"), ("demo", "1", "2"), ("outcome", "18446744073709551616"), ("run", "")]
 
 
@@ -43,6 +45,12 @@ class Answer:
     status: int
     output: bytes
     errors: bytes
+
+
+def is_planners(words: tuple[str, ...]) -> bool:
+    """Whether the command is one of the second program."""
+    by_number = len(words) > 1 and words[0] in SEEDED and words[1].isdigit()
+    return by_number or bool(words) and words[0] in PLANNERS
 
 
 def run(program: pathlib.Path, case: Case) -> Answer:
@@ -130,7 +138,7 @@ def main() -> int:
         seeds = pool.map(of_seed, range(given.first, given.first + given.random))
         cases = [*filed(), *(case for of_one in seeds for case in of_one)]
         if given.through:
-            lines = "".join(pool.map(as_line, [case for case in cases if case.is_plan == (case.words[:1] in PLANNERS)]))
+            lines = "".join(pool.map(as_line, [case for case in cases if case.is_plan == is_planners(case.words)]))
             return subprocess.run(shlex.split(given.through), input=lines, text=True).returncode
         programs = [program.resolve() for program in given.programs]
         count = sum(pool.map(lambda case: differs(programs, case), cases))
