@@ -24,7 +24,7 @@ def measured(name, call):
 def main() -> None:
     sys.path.insert(0, str(TOP / "python" / "src"))
     from foldcairn import planning
-    from foldcairn.scenario import Scenario
+    from foldcairn.model.scenario import Scenario
 
     network = Scenario.read(Path(sys.argv[1]))
     count = int(sys.argv[2]) if len(sys.argv) > 2 else 1_000
