@@ -410,7 +410,7 @@ front_end_draws() {
 }
 
 # The stored program alone, by a link on the PATH: it reads its standard input, and a file that is named is no word of its. The
-# help and README.md say so.
+# help and INSTALL.md say so.
 front_end_alone() {
     mkdir "$folder/alone"
     ln -s "$copy/bin/foldcairn-x86_64-linux" "$folder/alone/foldcairn"
@@ -422,7 +422,7 @@ front_end_alone() {
     ends "the stored program alone with a file" 2 "$usage"
     front --help
     says "the help does not say how the stored program reads" grep -qx "  foldcairn-x86_64-linux run < FILE" "$folder/out"
-    says "README.md does not say how the stored program reads" grep -qF '`foldcairn-x86_64-linux run < FILE`' "$top/README.md"
+    says "INSTALL.md does not say how the stored program reads" grep -qF '`foldcairn-x86_64-linux run < FILE`' "$top/docs/INSTALL.md"
 }
 
 # A copy that was installed has no sources, and runs what it has.
