@@ -5,7 +5,7 @@ PLAN = bin/foldcairn-plan-x86_64-linux
 IN_CRATE = cd crates/$(or $(CRATE),$(error name a crate: make $@ CRATE=link_trace)) &&
 
 .PHONY: help check only try tests test format edits crate gate store program python lint pages words pictures crates lemmas calls reading costs bench
-.PHONY: wheel deb rust wasm module export release install-tests notebook instructions
+.PHONY: limits wheel deb rust wasm module export release install-tests notebook instructions
 
 help: # lists the targets
 	@grep -E '^[a-z-]+:' Makefile
@@ -90,6 +90,9 @@ pictures: # draws the pictures of docs/ again, and writes what the Python of PLA
 
 crates: # writes again what pages say of each crate: its README.md, ARCHITECTURE.md, FILES.md and GUARANTEES.md
 	tools/crates.py
+
+limits: # writes the limits of the Python package again, from the sources of the programs
+	tools/limits.py
 
 lemmas: # lists the lemmas that crates keep for those above them in docs/internals/PROOFS.md again
 	tools/lemmas.py > docs/internals/page && mv docs/internals/page docs/internals/PROOFS.md

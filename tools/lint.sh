@@ -1,6 +1,6 @@
 #!/bin/sh
 # Checks what no test runs: the types of the Python package, the exporter and tools/reading by mypy --strict, unused and undefined names, forms and
-# line lengths of all Python by ruff, the shell scripts by shellcheck, and by tools/tidy.py the line lengths of .rt and .antt files and
+# line lengths of all Python by ruff, the shell scripts by shellcheck, and by tools/tidy.py what is too long in .rt and .antt files and
 # what crates.txt lists without need. The docstrings of the package's public functions are checked by numpydoc's validation, and
 # tools/docstrings.py says of which modules and by which checks. Debian 12 has no ruff: where it is missing, pyflakes and pycodestyle check
 # the same rules (those of [tool.ruff.lint] in python/pyproject.toml).
@@ -55,7 +55,8 @@ run shellcheck -S warning -e SC3013 $(git ls-files '*.sh' foldcairn .ci/run | gr
 # shellcheck disable=SC2086
 run shellcheck -S warning -e SC2154 $fragments
 
-# Columns, and edges between crates.
+# Columns, lengths of files and functions, and edges between crates; and the package's limits, which are those of the sources.
 run "$python" tools/tidy.py
+run "$python" tools/limits.py --check
 
 exit $failed

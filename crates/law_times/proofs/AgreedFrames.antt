@@ -2,10 +2,9 @@
 use Rattle.std.proofs.Common.{◌≡◌, ◌≢◌, ◌<◌, ◌≤◌, ◌+◌, ◌-◌, ◌*◌, ◌/◌, ℕ, zero, suc, List, true, false, inl, inr, Some, refl, sym, ◌∙◌, ap, subst, arith, ◌⊎◌}
 use Rattle.std.proofs.Common.{Contains}
 use Rattle.law_times.proofs.Words.{div-mul-le_self, mul-le-mul_left, mul-le-mul_right, cases_eq, Ask, Plan, code_of, IsOverScenario, ScenarioParts, over_sound}
-use Rattle.law_times.proofs.Words.{Hold}
 use Rattle.law_times.proofs.Words.{Host, Core, own_rank, count_of, HostPlan, last_slot, RequestOf, host_closes, State, StateOn, is_host, rank_of, state_at, has}
 use Rattle.law_times.proofs.Words.{IsHosted, slot_in, before_slot, message_said, rank_in, rounds, setup_of, Hosting, kept_of, IsWithin, LosesNothing, TakesPart}
-use Rattle.law_times.proofs.Words.{lose_nothing, closings, openings, HasSlowStreams, AwaitsSlot, IsDelivered, StreamPacket, resets, IsReached, has_line}
+use Rattle.law_times.proofs.Words.{lose_nothing, closings, openings, HasSlowStreams, AwaitsSlot, IsDelivered, StreamPacket, resets, IsReached, has_line, Hold}
 use Rattle.law_times.proofs.AgreedRounds.{GoodState, IsGoodAfter, IsGoodAt, good_closing, good_opening, next_good, unasked}
 use Rattle.law_times.proofs.AgreedStreams.{Good}
 use Rattle.law_times.proofs.ContendingFrames.{HasBoot, next_boot}

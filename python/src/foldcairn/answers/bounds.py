@@ -21,6 +21,7 @@ import pandas as pd
 from numpy.typing import NDArray
 
 from ..common import arguments
+from ..common.limits import EMPTY_SLOTS, GREATEST_GAP, QUIET_FRAMES, SEARCH_FRAMES
 from ..model import cautions, lines
 from ..model.events import Leave, Put, Stream, millionths
 from ..model.scenario import Scenario
@@ -29,14 +30,10 @@ from ..runs.results import Report
 from . import power
 from .answering import typed
 
-# The constants of the rules, in frames: the greatest gap between two rounds, a search for a rank, and one for the own rank.
-GREATEST_GAP, SEARCH_FRAMES, QUIET_FRAMES = 4, 12, 5
 # Of two hosts, from the round that falls out to the first of the other.
 TAKEOVER_FRAMES = 1 + SEARCH_FRAMES + QUIET_FRAMES
 # The rounds within which two contenders part, by the number of contention slots.
 PARTING_ROUNDS = {1: 30, 2: 28, 3: 30, 4: 24}
-# A host takes a stream away whose slots stayed empty so many times in a row.
-EMPTY_SLOTS = 16
 # How many rounds with losses in a row cost a member no more than `GREATEST_GAP` frames each.
 LOSSY_ROUNDS = 3
 _QUEUES = (1, 2, 4)

@@ -10,12 +10,10 @@ from dataclasses import dataclass, field
 
 import pandas as pd
 
+from ..common.limits import QUEUE_LENGTH
 from ..model.events import Leave, Off, On, Put, Stream
 from ..model.scenario import Scenario
 from .power import script
-
-# A stream has room for so many packets that wait.
-QUEUE_LENGTH = 16
 
 OFF, NO_STREAM, FULL_QUEUE = "node off", "no stream", "full queue"
 LOST, WITHDRAWN = "lost with its node", "withdrawn"

@@ -20,7 +20,7 @@ from numpy.typing import NDArray
 from PIL import Image
 
 from ..answers import power
-from ..common import arguments
+from ..common import arguments, limits
 from ..model.scenario import Link, Scenario
 from . import map_labels, style
 
@@ -29,7 +29,7 @@ Place = tuple[float, float]
 Paint = tuple[str, str]
 
 # The hops that a flood has steps for.
-_HOPS_MOST = 12
+_HOPS_MOST = limits.FLOOD_STEPS
 UNREACHED = "#f0c9cf"
 # The letters of names, and the smallest in which one is inside of its node.
 _LETTERS, _LETTERS_INSIDE = 8.0, 6.5

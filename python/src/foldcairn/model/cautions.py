@@ -13,6 +13,7 @@ from itertools import combinations
 from operator import attrgetter
 from typing import TYPE_CHECKING
 
+from ..common import limits
 from . import doubts, lines
 from .events import Leave, Off, On, Put, ScriptLine, Stream
 
@@ -21,11 +22,11 @@ if TYPE_CHECKING:
 
     from .scenario import Scenario
 
-# The first round of a host that is on from frame 0 on is in this frame, and rounds are at most 4 frames apart.
-_FIRST_ROUND = 5
-_GAP_MOST = 4
-# A node has searched for a host for so many frames before the next rank serves: 12 for the first host, and 5 for its own rank.
-_TAKEOVER_FRAMES = 17
+# The first round of a host that is on from frame 0 on is in this frame, and rounds are at most so many frames apart.
+_FIRST_ROUND = limits.QUIET_FRAMES
+_GAP_MOST = limits.GREATEST_GAP
+# A node has searched for a host for so many frames before the next rank serves: for the first host, and for its own rank.
+_TAKEOVER_FRAMES = limits.SEARCH_FRAMES + limits.QUIET_FRAMES
 # A stream whose packets come every so many seconds asks for a slot that much more often, so that its queue drains.
 _SLACK = 1.15
 _SLACK_LEAST = 1.10

@@ -8,31 +8,33 @@ from __future__ import annotations
 from dataclasses import dataclass
 from functools import cache
 
-FRAMES_MOST = 4_096
-NODES_MOST = 64
-NODE_FRAMES_MOST = 16_384
+from ..common import limits
+
+FRAMES_MOST = limits.MOST_FRAMES
+NODES_MOST = limits.MOST_NODES
+NODE_FRAMES_MOST = limits.RUN_NODE_FRAMES
 # The same for `outcome`, which keeps no log: 64 nodes over all frames.
-LONG_NODE_FRAMES_MOST = 262_144
+LONG_NODE_FRAMES_MOST = limits.BUS_NODE_FRAMES
 # The commands that read a network text: a scenario, and ratios below a line `ratios`.
 NETWORK_COMMANDS = frozenset({"bounds", "draw", "fates", "outcome", "sample"})
 # Those of the first program that read one where a seed comes after their word.
 SEEDED_COMMANDS = frozenset({"run", "log"})
-SCRIPT_LINES_MOST = 20_000
+SCRIPT_LINES_MOST = limits.MOST_SCRIPT_LINES
 # The same for network texts.
-LONG_SCRIPT_LINES_MOST = 262_144
-RATIO_LINES_MOST = 100_000
+LONG_SCRIPT_LINES_MOST = limits.BUS_SCRIPT_LINES
+RATIO_LINES_MOST = limits.MOST_RATIO_LINES
 # The greatest seed that the programs take.
 SEED_MOST = 9_999_999_999_999
 # How many seeds one call of this package takes.
 SEEDS_MOST = 1_000_000
-BOOTS_MOST = 200
-TEXT_BYTES_MOST = 4_194_304
+BOOTS_MOST = limits.MOST_BOOTS
+TEXT_BYTES_MOST = limits.INPUT_LIMIT
 DIGITS_MOST = 13
 STREAMS_OF_A_HOST = 32
 # A host takes a stream away whose slots stayed empty so many times in a row.
-EMPTY_SLOTS = 16
-DATA_SLOTS = 40
-STEPS = 12
+EMPTY_SLOTS = limits.EMPTY_SLOTS
+DATA_SLOTS = limits.DATA_SLOTS
+STEPS = limits.FLOOD_STEPS
 PROFILES = (1, 2)
 
 # The lines that count as script lines, of which a text has at most SCRIPT_LINES_MOST, and a network text LONG_SCRIPT_LINES_MOST.
@@ -108,7 +110,7 @@ _INTERVAL = "; ask for 120, and put the packets as seldom as they come, as `ever
 
 
 def _id(name: str) -> Field:
-    return Field(name, 1, 200, kind="id")
+    return Field(name, 1, limits.GREATEST_ID, kind="id")
 
 
 def _scenario_fields(context: Context) -> dict[str, tuple[Field, ...]]:
@@ -123,7 +125,7 @@ def _scenario_fields(context: Context) -> dict[str, tuple[Field, ...]]:
         "contend": (Field("number of contention slots", 1, 4),),
         "frames": (Field("number of frames", 1, FRAMES_MOST, advice=_FRAMES),),
         "sends": (Field("number of transmissions of a node in one flood", 1, 4),),
-        "node": (Field("id of the node", 1, 200, kind="new id"), Field("clock offset", 0, 256_000, "ticks of 1/64 µs")),
+        "node": (Field("id of the node", 1, limits.GREATEST_ID, kind="new id"), Field("clock offset", 0, 256_000, "ticks of 1/64 µs")),
         "rate": (
             node,
             Field("tick", 0, FRAMES_MOST * frame_ticks(context.profile), "ticks of 1/64 µs"),
@@ -147,7 +149,7 @@ def _network_fields(context: Context) -> dict[str, tuple[Field, ...]]:
     """The lines of a scenario, and those below a line `ratios`."""
     scenario = _scenario_fields(context)
     frame, (sender, receiver) = scenario["on"][0], scenario["link"]
-    return scenario | {"ratio": (frame, sender, receiver, Field("ratio", 0, 1_000_000, "millionths"))}
+    return scenario | {"ratio": (frame, sender, receiver, Field("ratio", 0, limits.GREATEST_RATIO, "millionths"))}
 
 
 def _flood_fields(_: Context) -> dict[str, tuple[Field, ...]]:
@@ -161,7 +163,7 @@ def _deadline_fields(_: Context) -> dict[str, tuple[Field, ...]]:
         "slots": (Field("number of slots", 1, DATA_SLOTS),),
         "frames": (Field("number of frames", 1, 1_024),),
         "stream": (
-            Field("id of the node", 1, 200),
+            Field("id of the node", 1, limits.GREATEST_ID),
             Field("stream", 0, 3),
             Field("start", 0, 1_023, "frames"),
             Field("period", 1, 64, "frames"),

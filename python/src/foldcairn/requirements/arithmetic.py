@@ -15,6 +15,7 @@ from typing import TYPE_CHECKING
 
 import numpy as np
 
+from ..common.limits import QUIET_FRAMES
 from ..model import lines, moments
 from ..model.events import Put
 from ..model.scenario import Scenario
@@ -28,8 +29,6 @@ from .counting import Numbers
 if TYPE_CHECKING:
     from ..plan.plan import Plan
 
-# A host searches for others of its rank for so many frames first.
-_SCANNED_FRAMES = 5
 # Slots that a stream may get more than its interval says, at the ends of a run.
 _MORE_SLOTS = 2
 _LITTLE = 1e-9
@@ -141,13 +140,13 @@ def _too_many_slots(requirement: Requirement, streams: list[Stream], network: Sc
 def _never_joined(plan: Plan, requirement: Requirement) -> str:
     """That a node is to be a member before any host opens a round."""
     frame = lines.frame_seconds(plan.settings.profile)
-    first = _SCANNED_FRAMES * frame + ROUND_SECONDS
+    first = QUIET_FRAMES * frame + ROUND_SECONDS
     hosts = {host.node for host in plan.hosts}
     begun = min(plan.nodes[node].on for node in hosts)
     early = [name for name in measuring.nodes_of(plan, requirement) if name not in hosts and plan.nodes[name].on <= begun]
     if not early or (requirement.joined or 0.0) >= first:
         return ""
-    return f"no host opens a round in its first {_SCANNED_FRAMES} frames, so {early[0]} can be a member after {first:g} s at the earliest"
+    return f"no host opens a round in its first {QUIET_FRAMES} frames, so {early[0]} can be a member after {first:g} s at the earliest"
 
 
 def _no_backup(plan: Plan, cases: list[Case]) -> str:

@@ -9,6 +9,7 @@ from typing import TYPE_CHECKING, Any
 
 import pandas as pd
 
+from ..common import limits
 from ..model import lines
 from ..model.scenario import Scenario
 from ..plan import packets
@@ -29,7 +30,7 @@ _SLACK = 1.15
 _SEARCHING = 0.2
 _SENDS_MOST = 4
 # After how many frames without a round a backup hosts, if nothing is lost (docs/BOUNDS.md).
-_TAKEOVER = 18
+_TAKEOVER = 1 + limits.SEARCH_FRAMES + limits.QUIET_FRAMES
 
 
 @dataclass(frozen=True, eq=False)

@@ -17,6 +17,7 @@ from typing import TYPE_CHECKING
 import numpy as np
 from numpy.typing import NDArray
 
+from ..common.limits import MOST_RANKS
 from ..model.receivers import ALL, HOSTS
 from ..model.scenario import Scenario, ScenarioWarning
 from ..plan.model import Requirement, Stream
@@ -33,7 +34,6 @@ if TYPE_CHECKING:
 _LITTLE = 1e-9
 # A packet that has no deadline and is put so many frames before the end may still wait then.
 _WAITING_FRAMES = 12
-_RANKS = 4
 # Of each unit its value in a draw, or None, and of how many packets it is.
 Values = dict[str, "tuple[float | None, int]"]
 Truths = NDArray[np.bool_]
@@ -209,7 +209,7 @@ class Draw:
         ours = np.ones(len(own.put), dtype=bool)
         if receivers is not None:
             return own, ours, np.isin(own.at, list(receivers))
-        hosts = np.array([self.network.hosts.get(rank, -1) for rank in range(_RANKS)])
+        hosts = np.array([self.network.hosts.get(rank, -1) for rank in range(MOST_RANKS)])
         # What its source hosts itself is meant for nobody.
         ours[own.of[hosts[own.rank] == source]] = False
         return own, ours, (own.at == hosts[own.rank]) & ours[own.of]

@@ -13,10 +13,12 @@ import numpy as np
 import pandas as pd
 from numpy.typing import NDArray
 
+from ..common import limits
+
 # Byte 0 of a packet.
 _SCHEDULE_1, _DATA, _REQUEST, _SCHEDULE_2 = 1, 2, 3, 4
 KINDS = ("opening", "data", "request", "closing")
-MOST_OWNERS = 40
+MOST_OWNERS = limits.DATA_SLOTS
 MOST_ACKNOWLEDGEMENTS = 4
 
 
