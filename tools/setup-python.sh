@@ -3,7 +3,7 @@
 # jinja2, tqdm, scipy, statsmodels, tomlkit, pytest and hypothesis, for Debian's /usr/bin/python3. With --optional it also installs what only some tests
 # and `make lint` need: chromium and tshark, which open the pages and the captures that the package writes, nodejs, which runs modules of the
 # planner's page, distributed (Dask), optuna and openpyxl, which large searches and tables for Excel use,
-# pytest-cov, mypy, numpydoc, pyflakes, pycodestyle and shellcheck, and valgrind, which counts instructions. Tests that need one of them are skipped
+# pytest-cov, mypy, numpydoc, pyflakes, pycodestyle, shellcheck, eslint and tsc, and valgrind, which counts instructions. Tests that need one of them are skipped
 # where it is missing, and say so.
 #
 # Usage: tools/setup-python.sh [--check | --print | --optional]
@@ -16,8 +16,8 @@
 set -u
 
 modules='pandas networkx matplotlib plotly jinja2 tqdm scipy statsmodels tomlkit pytest hypothesis'
-# Programs and modules that only some tests and the checks of `make lint` use; a program has the name of its Debian package.
-programs='chromium nodejs tshark shellcheck valgrind'
+# Programs and modules that only some tests and the checks of `make lint` use; a program has the name of its Debian package, or that after the colon.
+programs='chromium nodejs tshark shellcheck valgrind eslint tsc:node-typescript'
 optional='distributed optuna openpyxl pytest_cov mypy numpydoc pyflakes pycodestyle'
 debian=/usr/bin/python3
 
@@ -67,10 +67,10 @@ whole_python() {
     return 1
 }
 
-# The optional programs that are not there.
+# The Debian packages of the optional programs that are not there.
 missing_programs() {
     for program in $programs; do
-        command -v "$program" >/dev/null 2>&1 || printf '%s ' "$program"
+        command -v "${program%:*}" >/dev/null 2>&1 || printf '%s ' "${program#*:}"
     done
 }
 
