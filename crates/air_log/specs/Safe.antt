@@ -7,7 +7,7 @@ use Rattle.lwb_base.specs.Messages.{Schedule, code}
 use Rattle.lwb_packets.specs.Body.{body}
 use Rattle.lwb_packets.specs.Requests.{is_request}
 use Rattle.schedule_codec.specs.Reading.{is_schedule}
-use Rattle.bus_rules.specs.declared.part.Part.TheVariants.{Data as DataSlot}
+use Rattle.bus_rules.specs.declared.part.Part.TheVariants.{Data as DataSlot, Contention}
 use Rattle.bus_rules.specs.declared.tune.Tune.{Tune}
 use Rattle.bus_rules.specs.Tuning.{hosts}
 use Rattle.bus_rules.specs.Slots.{Message, ScheduleOf, DataOf, RequestOf, part_of}
@@ -59,8 +59,8 @@ pub record Begins (x : Sending) : Type 0 where
   pub first : counter_of_sending x ≡ 0
   pub no_request : is_request x.packet ≡ false
 
--- one initiator: at most one transmission that is no request begins the flood of a slot, so at most one node initiates data in
--- a data slot; and a schedule is begun by the host of its channel
+-- one initiator: at most one transmission that is no request begins the flood of a slot, and a schedule is begun by the host of
+-- its channel. Where requests may begin is said below, by silence
 pub record OneInitiator (s : ScenarioParts) (air : List Entry) : Type 0 where
   pub one : AllPairs (λ x y. SameSlot s.profile x y → Begins x → Begins y → ⊥) (sendings_of air)
   pub host : (x : Sending) → Contains (sendings_of air) x
@@ -70,10 +70,10 @@ pub record OneInitiator (s : ScenarioParts) (air : List Entry) : Type 0 where
 abbrev pub StaysOn : ScenarioParts → ℕ → ℕ → ℕ → Type 0
 StaysOn s v g f = (l : ScriptLine) → Contains s.script l → l.node ≡ v → g < l.frame → l.frame ≤ f → l.act ≢ Off
 
--- what may be said in slot j of the round of a schedule: data by its j-th owner, and a request after an opening
+-- what may be said in slot j of the round of a schedule: data by its j-th owner, and a request in a contention slot after an opening
 abbrev pub Allows : Schedule → ℕ → Option Message → Type 0
 Allows y j (Some (DataOf d)) = part_of y.plan j ≡ DataSlot (code d.node d.stream)
-Allows y j (Some (RequestOf a)) = y.gap ≡ 0
+Allows y j (Some (RequestOf a)) = (y.gap ≡ 0) × (i : ℕ) × (part_of y.plan j ≡ Contention i)
 Allows y j (Some (ScheduleOf z)) = ⊤
 Allows y j None = ⊤
 
@@ -98,11 +98,13 @@ is_hosting (Some tune) = hosts tune
 abbrev pub sender_hosts : ScenarioParts → (ℕ → ℕ → ℕ) → List Entry → Sending → Bool
 sender_hosts s clocks air x = is_hosting (tune_when s x.node (clocks x.node) (heard_by air x.node) x.start)
 
--- silence: who begins a flood that is no schedule, and does not host, has received that it may
+-- silence: who begins a flood that is no schedule has received that it may, unless it hosts and does not ask. So two that begin
+-- the flood of one slot both ask, and in a contention slot: in a data slot at most one node initiates
 abbrev pub Silence : ScenarioParts → (ℕ → ℕ → ℕ) → List Entry → Type 0
 Silence s clocks air =
     (x : Sending) → Contains (sendings_of air) x
-    → counter_of_sending x ≡ 0 → is_schedule x.packet ≡ false → sender_hosts s clocks air x ≡ false → HasWord s air x
+    → counter_of_sending x ≡ 0 → is_schedule x.packet ≡ false
+    → (is_request x.packet ≡ false → sender_hosts s clocks air x ≡ false) → HasWord s air x
 
 pub record Safe (s : ScenarioParts) (clocks : ℕ → ℕ → ℕ) (air : List Entry) : Type 0 where
   pub within_one_frame : WithinOneFrame s air

@@ -29,7 +29,7 @@ abbrev pub PrintsDeliveries : ScenarioParts → List ℕ → Type 0
 PrintsDeliveries s text = lines_with (codes "deliver") text ≡ map delivery_line (bus_deliveries s)
 
 -- the lines `sent` are the transmissions of this log, in the order of log texts; and in the log different frames, slots and steps never
--- overlap, relays of one data or schedule flood differ only by counter, and one node at most initiates in a data slot
+-- overlap, relays of one data or schedule flood differ only by counter, and one node at most initiates in a slot in which data is said
 pub record PrintsSafeLog (s : ScenarioParts) (text : List ℕ) : Type 0 where
   pub log : List Entry
   pub is : lines_with (codes "sent") text ≡ map sent_line (sendings_of (in_order entry_is_before log))

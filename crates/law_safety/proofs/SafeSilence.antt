@@ -1,10 +1,12 @@
--- Silence: who begins a flood that is no schedule, and does not host, has received that it may.
+-- Silence: who begins a flood that is no schedule, and asks or does not host, has received that it may.
 use Rattle.std.proofs.Common.{◌≡◌, ℕ, suc, inl, inr, List, false, Some, None, Option, refl, sym, ◌∙◌, ap, subst, arith, true≢false}
 use Rattle.std.proofs.Math.Nat.{mul-le-mul_right}
+use Rattle.std.specs.Prelude.{slice_index}
 use Rattle.lwb_base.specs.Messages.{Plan, code, node_of, stream_of}
+use Rattle.lwb_packets.specs.Requests.{is_request}
 use Rattle.schedule_codec.specs.Reading.{is_schedule}
 use Rattle.bus_rules.specs.declared.part.Part.TheVariants.{Data as DataSlot}
-use Rattle.bus_rules.specs.Slots.{Message, ScheduleOf, DataOf, RequestOf}
+use Rattle.bus_rules.specs.Slots.{Data, Message, ScheduleOf, DataOf, RequestOf}
 use Rattle.lwb_member.specs.Said.{message_of}
 use Rattle.scenario_text.specs.ScenarioParts.{ScenarioParts}
 use Rattle.radio_model.specs.declared.sending.Sending.{Sending}
@@ -12,7 +14,7 @@ use Rattle.radio_model.specs.Hearing.{frame_of_sending, slot_of_sending}
 use Rattle.air_log.specs.declared.entry.Entry.{Entry}
 use Rattle.air_log.specs.Safe.{Allows, HasWord, Silence, StaysOn, sender_hosts}
 use Rattle.air_log.specs.Trails.{frame_start}
-use Rattle.law_trails.proofs.SaidPackets.{says}
+use Rattle.law_trails.proofs.SaidPackets.{data_first, data_read, no_request, says}
 use Rattle.law_safety.specs.Beginnings.{MaySay}
 use Rattle.law_safety.specs.SentPlans.{HasHeardPlan, HasHeardOpening, StaysOnUntil}
 use Rattle.law_safety.specs.Endings.{EndsInOrder}
@@ -57,19 +59,23 @@ module _ (s : ScenarioParts) (clocks : ℕ → ℕ → ℕ) (air : List Entry) (
     allows = allows;
   }
 
-  has_word : (z : ℕ) (m : Option Message) → message_of x.packet ≡ m → is_schedule x.packet ≡ false → sender_hosts s clocks air x ≡ false
+  no_data : (d : Data) → message_of x.packet ≡ Some (DataOf d) → slice_index x.packet 0 ≡ 3 → ⊥
+  no_data d is three = let two = data_first x.packet (data_read x.packet d is).0 in omega (arith, two, three)
+
+  has_word : (z : ℕ) (m : Option Message) → message_of x.packet ≡ m → is_schedule x.packet ≡ false
+      → (is_request x.packet ≡ false → sender_hosts s clocks air x ≡ false)
       → MaySay s clocks air x.node x.rank (frame_of_sending s.profile x) z (slot_of_sending x) (sender_hosts s clocks air x) m → HasWord s air x
   has_word z None is none guest may = absurd may
   has_word z (Some (ScheduleOf y)) is none guest may = absurd (true≢false (sym (says x.packet (ScheduleOf y) is).spelled ∙ none))
   has_word z (Some (DataOf d)) is none guest may = elim may.word [
-    | inl hosting ↦ absurd (true≢false (sym hosting ∙ guest))
+    | inl hosting ↦ absurd (true≢false (sym hosting ∙ guest (no_request x.packet (no_data d is))))
     | inr word ↦ heard_plan may.plan word
         (λ gap. subst (λ (m : Option Message). Allows (record { plan = may.plan; gap = gap }) (slot_of_sending x) m) (sym is)
         (may.part ∙ ap DataSlot (of_code may.owner d.node d.stream (may.node ∙ sym may.own) may.stream)))
   ]
   has_word z (Some (RequestOf a)) is none guest may =
       heard_opening may.plan may.word
-      (subst (λ (m : Option Message). Allows (record { plan = may.plan; gap = 0 }) (slot_of_sending x) m) (sym is) refl)
+      (subst (λ (m : Option Message). Allows (record { plan = may.plan; gap = 0 }) (slot_of_sending x) m) (sym is) (refl, may.place, may.part))
 
 pub silence : (s : ScenarioParts) (clocks : ℕ → ℕ → ℕ) (air : List Entry) → EndsInOrder s clocks air
     → Silence s clocks air

@@ -5,8 +5,8 @@ ghost use Rattle.law_safety.specs.Endings.{LogsInOrderAreSafe};
 
 /// If the invariant holds at the end of a run, its log is safe. Each transmission lies in one frame, and overlaps none of
 /// another frame, slot or step of its channel. Two of one slot differ in the counter alone, unless both are requests. At most
-/// one node begins the flood of a slot, requests aside. A node begins one only if it hosts, or has received a schedule that
-/// allows it.
+/// one node begins the flood of a slot, requests aside. A node begins one only if it has received a schedule that allows it, or
+/// hosts and sends no request. So in a data slot at most one node initiates.
 pub fn logs_in_order_are_safe()
     ensures { LogsInOrderAreSafe }
 {}

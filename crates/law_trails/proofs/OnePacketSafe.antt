@@ -31,7 +31,7 @@ asks = record {
   named = refl;
   due = refl;
   stays_on = stays_on 2 5 5;
-  allows = refl;
+  allows = (refl, 1, refl);
 }
 
 speaks : HasWord one_packet one_packet_log data_0

@@ -184,7 +184,7 @@ packets_say p = some_by p (is_data p) (is_request p) (schedule_of p)
 no_data : (p : List ℕ) → (slice_index p 0 ≡ 2 → ⊥) → is_data p ≡ false
 no_data p other = false_from_ne_true (is_data p) (λ is. other (data_first p is))
 
-no_request : (p : List ℕ) → (slice_index p 0 ≡ 3 → ⊥) → is_request p ≡ false
+pub no_request : (p : List ℕ) → (slice_index p 0 ≡ 3 → ⊥) → is_request p ≡ false
 no_request p other = false_from_ne_true (is_request p) (λ is. other (request_first p is))
 
 some_is : (o : Option Schedule) → is_some o ≡ true → (s : Schedule) × (o ≡ Some s)

@@ -21,7 +21,7 @@ use Rattle.lwb_base.proofs.Elements.{not_in_none, contains_cases}
 use Rattle.air_log.proofs.ComputedTrails.{goes_through, after_ticks, computed, true_due}
 use Rattle.law_trails.specs.BrokenClauses.{BreaksOnly, Silent}
 use Rattle.law_trails.specs.UnsafeLogs.{no_power, scenario_with_off_line, data_said, later_data, asked, opening_transmission, closing_transmission}
-use Rattle.law_trails.specs.UnsafeLogs.{grant_transmission, unheard, not_the_owner, not_due, not_opened, gone_off}
+use Rattle.law_trails.specs.UnsafeLogs.{grant_transmission, reopening_transmission, unheard, not_the_owner, not_due, not_opened, asked_in_data_slot, gone_off}
 use Rattle.law_trails.proofs.BrokenClauses.{breaks}
 use Rattle.law_trails.proofs.SafeTests.{in_frame_by, apart_by, alike_by, one_by}
 
@@ -84,7 +84,7 @@ unheard_guest = guest no_power unheard data_said [] refl refl refl refl
 
 unheard_is : Silence no_power true_time unheard → ⊥
 unfolding digits packed_number schedule_of asks_in
-unheard_is keeps = let word = keeps data_said (0, omega arith, refl) refl refl unheard_guest in not_in_none _ word.there
+unheard_is keeps = let word = keeps data_said (0, omega arith, refl) refl refl (λ other. unheard_guest) in not_in_none _ word.there
 
 pub unheard_breaks : BreaksOnly Silent no_power true_time unheard
 unfolding least_passing digits packed_number schedule_of asks_in
@@ -99,7 +99,7 @@ not_the_owner_guest = guest no_power not_the_owner data_said (1344100864 ∷ [])
 not_the_owner_is : Silence no_power true_time not_the_owner → ⊥
 unfolding digits packed_number schedule_of asks_in
 not_the_owner_is keeps =
-    let word = keeps data_said (1, omega arith, refl) refl refl not_the_owner_guest in
+    let word = keeps data_said (1, omega arith, refl) refl refl (λ other. not_the_owner_guest) in
     let is : opening ≡ word.schedule =
     schedule_is no_power not_the_owner opening_transmission opening opened_says refl word.heard word.schedule word.there word.says in
     let part : Contention 1 ≡ Data 8 = ap (λ (y : Schedule). part_of y.plan 1) is ∙ word.allows in
@@ -118,7 +118,7 @@ not_due_guest = guest no_power not_due asked (1344100864 ∷ []) refl refl refl 
 not_due_is : Silence no_power true_time not_due → ⊥
 unfolding digits packed_number schedule_of asks_in
 not_due_is keeps =
-    let word = keeps asked (1, omega arith, refl) refl refl not_due_guest in
+    let word = keeps asked (1, omega arith, refl) refl refl (λ other. not_due_guest) in
     let gap : 0 ≡ word.schedule.gap =
     ap (λ (y : Schedule). y.gap) (schedule_is no_power not_due opening_transmission opening opened_says refl word.heard word.schedule word.there word.says) in
     let frame : 5 ≡ word.heard.start / 256000000 =
@@ -139,11 +139,11 @@ not_opened_guest = guest no_power not_opened asked (1348324864 ∷ []) refl refl
 not_opened_is : Silence no_power true_time not_opened → ⊥
 unfolding digits packed_number schedule_of asks_in
 not_opened_is keeps =
-    let word = keeps asked (1, omega arith, refl) refl refl not_opened_guest in
+    let word = keeps asked (1, omega arith, refl) refl refl (λ other. not_opened_guest) in
     let gap : 4 ≡ word.schedule.gap =
     ap (λ (y : Schedule). y.gap)
     (schedule_is no_power not_opened closing_transmission closing closed_says refl word.heard word.schedule word.there word.says) in
-    let none : word.schedule.gap ≡ 0 = word.allows in
+    let none : word.schedule.gap ≡ 0 = word.allows.0 in
     absurd (omega (arith, gap, none))
 
 pub not_opened_breaks : BreaksOnly Silent no_power true_time not_opened
@@ -151,6 +151,33 @@ unfolding least_passing digits packed_number schedule_of asks_in
 not_opened_breaks = breaks Silent no_power not_opened not_opened_is
     (λ is. in_frame_by no_power not_opened refl) (λ is. apart_by no_power not_opened refl)
     (λ is. alike_by no_power not_opened refl) (λ is. one_by no_power not_opened refl refl) (λ is. absurd (is refl))
+
+-- the slots of frame 9 are node 2's own, and in none of the first four may it ask
+abbrev reopening : Schedule
+reopening = record { plan = plan_with (record { node = 2; boot = 1; stream = 0; interval = 4 } ∷ []) (8 ∷ 8 ∷ 8 ∷ 8 ∷ []); gap = 0 }
+
+reopened_says : message_of reopening_transmission.packet ≡ Some (ScheduleOf reopening)
+unfolding least_passing digits packed_number schedule_of asks_in
+reopened_says = refl
+
+asked_in_data_slot_guest : sender_hosts no_power true_time asked_in_data_slot asked ≡ false
+unfolding alarms
+asked_in_data_slot_guest = guest no_power asked_in_data_slot asked (2368104960 ∷ []) refl refl refl refl
+
+asked_in_data_slot_is : Silence no_power true_time asked_in_data_slot → ⊥
+unfolding digits packed_number schedule_of asks_in
+asked_in_data_slot_is keeps =
+    let word = keeps asked (1, omega arith, refl) refl refl (λ other. asked_in_data_slot_guest) in
+    let is : reopening ≡ word.schedule =
+    schedule_is no_power asked_in_data_slot reopening_transmission reopening reopened_says refl word.heard word.schedule word.there word.says in
+    let part : Data 8 ≡ Contention word.allows.1 = ap (λ (y : Schedule). part_of y.plan 1) is ∙ word.allows.2 in
+    cc part
+
+pub asked_in_data_slot_breaks : BreaksOnly Silent no_power true_time asked_in_data_slot
+unfolding least_passing digits packed_number schedule_of asks_in
+asked_in_data_slot_breaks = breaks Silent no_power asked_in_data_slot asked_in_data_slot_is
+    (λ is. in_frame_by no_power asked_in_data_slot refl) (λ is. apart_by no_power asked_in_data_slot refl)
+    (λ is. alike_by no_power asked_in_data_slot refl) (λ is. one_by no_power asked_in_data_slot refl refl) (λ is. absurd (is refl))
 
 -- the received closing gives node 2 its slot, but a line switches it off
 gone_off_guest : sender_hosts scenario_with_off_line true_time gone_off later_data ≡ false
@@ -167,7 +194,7 @@ granted_says = refl
 gone_off_is : Silence scenario_with_off_line true_time gone_off → ⊥
 unfolding digits packed_number schedule_of asks_in
 gone_off_is keeps =
-    let word = keeps later_data (1, omega arith, refl) refl refl gone_off_guest in
+    let word = keeps later_data (1, omega arith, refl) refl refl (λ other. gone_off_guest) in
     let frame : 5 ≡ word.heard.start / 256000000 = ap (λ (x : Sending). x.start / 256000000)
     (heard_is scenario_with_off_line gone_off grant_transmission grant granted_says refl word.heard word.there) in
     word.stays_on (record { frame = 9; node = 2; act = Off }) (0, omega arith, refl) refl (omega (arith, frame)) (omega arith) refl

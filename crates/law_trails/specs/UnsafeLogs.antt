@@ -7,7 +7,7 @@ use Rattle.air_log.specs.declared.entry.Entry.{Entry}
 use Rattle.air_log.specs.declared.entry.Entry.TheVariants.{Sent}
 use Rattle.air_log.specs.Entries.{heard_entry}
 use Rattle.air_log.specs.FirstRound.{first_round, sent_at, opening_with, closing_with}
-use Rattle.law_trails.specs.OnePacket.{grant_with}
+use Rattle.law_trails.specs.OnePacket.{grant_with, reopening_with}
 
 abbrev pub log_of_sendings : List Sending → List Entry
 log_of_sendings xs = map Sent xs
@@ -88,6 +88,10 @@ closing_transmission = sent_at 1 1348288000 1348324864 (closing_with 0)
 abbrev pub grant_transmission : Sending
 grant_transmission = sent_at 1 1348288000 1348328960 (grant_with 0)
 
+-- the opening of frame 9 by which these slots are its own
+abbrev pub reopening_transmission : Sending
+reopening_transmission = sent_at 1 2368064000 2368104960 (reopening_with 0)
+
 -- it received no schedule
 abbrev pub unheard : List Entry
 unheard = log_of_sendings (data_said ∷ [])
@@ -103,6 +107,10 @@ not_due = log_of_sendings (opening_transmission ∷ asked ∷ []) ++ heard_entry
 -- it received the closing for this frame, and no opening
 abbrev pub not_opened : List Entry
 not_opened = log_of_sendings (closing_transmission ∷ asked ∷ []) ++ heard_entry 2 closing_transmission ∷ []
+
+-- it received the opening of this frame, by which slot 1 is a data slot
+abbrev pub asked_in_data_slot : List Entry
+asked_in_data_slot = log_of_sendings (reopening_transmission ∷ asked ∷ []) ++ heard_entry 2 reopening_transmission ∷ []
 
 -- slot 1 is its own, but where the script switches it off since
 abbrev pub gone_off : List Entry

@@ -10,7 +10,8 @@ ghost use Rattle.air_log.specs.TwoNodeLog.{true_time};
 ghost use Rattle.air_log.specs.FirstRound.{first_round, first_round_log};
 ghost use Rattle.law_trails.specs.BrokenClauses.{BreaksOnly, InFrame, Apart, Alike, OneBegins, Silent};
 ghost use Rattle.law_trails.specs.UnsafeLogs.{ends_late, slots_meet, steps_meet, starts_apart, other_bytes, two_begin};
-ghost use Rattle.law_trails.specs.UnsafeLogs.{not_the_host, no_power, scenario_with_off_line, unheard, not_the_owner, not_due, not_opened, gone_off};
+ghost use Rattle.law_trails.specs.UnsafeLogs.{not_the_host, no_power, scenario_with_off_line, unheard, not_the_owner, not_due, not_opened};
+ghost use Rattle.law_trails.specs.UnsafeLogs.{asked_in_data_slot, gone_off};
 
 /// Valid (`Lawful`) logs are protocol-obedient: that is what safety is based on.
 pub fn lawful_logs_are_heedful()
@@ -36,11 +37,13 @@ pub fn schedules_break_a_clause()
 {}
 
 /// Small logs in which a node that does not host breaks silence, and no other clause: it received no schedule, or one by which
-/// the slot is not its own, one for another frame, a closing schedule where it asks, or it was powered off since.
+/// the slot is not its own, one for another frame, a closing schedule where it asks, an opening schedule that has a data slot where it asks,
+/// or it was powered off since.
 pub fn guests_break_silence()
     ensures unheard { BreaksOnly Silent no_power true_time unheard }
     ensures not_the_owner { BreaksOnly Silent no_power true_time not_the_owner }
     ensures not_due { BreaksOnly Silent no_power true_time not_due }
     ensures not_opened { BreaksOnly Silent no_power true_time not_opened }
+    ensures asked_in_data_slot { BreaksOnly Silent no_power true_time asked_in_data_slot }
     ensures gone_off { BreaksOnly Silent scenario_with_off_line true_time gone_off }
 {}

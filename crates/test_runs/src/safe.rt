@@ -21,7 +21,7 @@ pub enum Clause {
     OneInitiator,
     /// A schedule is begun by the host of its channel.
     HostSchedules,
-    /// Who begins another flood hosts by its trail, or has received a schedule that allows it and stayed on.
+    /// Who begins another flood has received a schedule that allows it and stayed on, or hosts by its trail and does not ask.
     Silence,
 }
 
@@ -115,7 +115,7 @@ fn host_schedules(s: &Scenario, x: &SentEntry) -> bool {
 fn may_begin(s: &Scenario, x: &SentEntry, air: &Air, trails: &[Trail]) -> bool {
     x.packet.counter() != 0
         || read(&x.packet).is_some()
-        || hosts(s, x, trails)
+        || (!is_request(x) && hosts(s, x, trails))
         || has_word(s, air, x)
 }
 
@@ -168,7 +168,8 @@ fn stays_on(s: &Scenario, x: &SentEntry, told: u64, now: u64) -> bool {
 
 fn allows(schedule: &Schedule, x: &SentEntry) -> bool {
     let Some(data) = decode_payload(&x.packet) else {
-        return !is_request(x) || schedule.gap == 0;
+        return !is_request(x)
+            || (schedule.gap == 0 && is_for_contention(schedule, x.packet.slot()));
     };
     let slot = x.packet.slot() as usize;
     if slot == 0 {
@@ -178,4 +179,10 @@ fn allows(schedule: &Schedule, x: &SentEntry) -> bool {
         Some(owner) => owner.node() == data.node && owner.stream() == data.stream,
         None => false,
     }
+}
+
+// Whether the slot is behind the data slots of a round, and before the closing.
+fn is_for_contention(schedule: &Schedule, slot: u8) -> bool {
+    let owners = schedule.owners.count();
+    slot > owners && slot - owners <= schedule.contend.max(1)
 }

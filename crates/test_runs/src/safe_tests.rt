@@ -148,14 +148,15 @@ fn at_13(node: u8, slot: u8, counter: u8, done: Move) -> MovedEntry {
 }
 
 // A transmission of two contenders by its node, slot and counter, what is done to it, and the
-// clause that this breaks. In frame 13 node 2 has slot 1, in which it sends, and node 3 asks for a
-// stream.
+// clause that this breaks. In frame 13 node 2 has slots 1 to 4 and sends in the first, and node 3
+// asks for a stream in slot 5.
 const BROKEN: &[(u8, u8, u8, Move, Clause)] = &[
     (2, 1, 0, Move::Earlier(SLOT), Clause::NoOverlap),
     (2, 0, 1, Move::Later(SLOT), Clause::SameButForCounter),
     (1, 1, 1, Move::Byte(2, 0), Clause::OneInitiator),
     (1, 0, 0, Move::By(2), Clause::HostSchedules),
     (2, 1, 0, Move::Later(FRAME), Clause::Silence),
+    (3, 5, 0, Move::Byte(1, 2), Clause::Silence),
     (2, 1, 0, Move::Longer(FRAME), Clause::WithinOneFrame),
 ];
 
