@@ -74,7 +74,7 @@ act_keeps a x =
     (λ c is. keeps_both x (StateOn c) (StateOff c.boot) is (ends_keep c))
     (λ a c is. keeps_both x (StateOn c) (StateOn (core_after_act a c)) is (streams_keep a c)) a x (keeps_same x)
 
-lines_keep : (ls : List ScriptLine) (x : State) → Keeps x (fold state_after_line x ls)
+pub lines_keep : (ls : List ScriptLine) (x : State) → Keeps x (fold state_after_line x ls)
 lines_keep [] x = keeps_same x
 lines_keep (l ∷ ls) x =
     keeps_both x (state_after_line x l) (fold state_after_line (state_after_line x l) ls) (act_keeps l.act x) (lines_keep ls (state_after_line x l))

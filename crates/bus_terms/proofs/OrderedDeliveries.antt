@@ -137,7 +137,7 @@ rank_is s rank f p j u states d is = by_state (states u) refl
             core_same is = cc
 
 -- rounds and frames keep the numbers of each node
-rounds_keep : (s : ScenarioParts) (f v : ℕ) (states : ℕ → State) → Keeps (states v) (rounds s f states v)
+pub rounds_keep : (s : ScenarioParts) (f v : ℕ) (states : ℕ → State) → Keeps (states v) (rounds s f states v)
 unfolding before_slot
 rounds_keep s f v states = by_plan (round_plan s (rank_in (states v)) f states)
   where
@@ -153,7 +153,7 @@ frame_keeps s f v =
     keeps_both (before_frame s f v) (told v) (before_frame s (suc f) v) (script_keeps s f v (before_frame s f))
     (keeps_both (told v) (over v) (before_frame s (suc f) v) (rounds_keep s f v told) (ended_keeps s f v over))
 
-frames_keep : (s : ScenarioParts) (v f g : ℕ) → f ≤ g → Keeps (before_frame s f v) (before_frame s g v)
+pub frames_keep : (s : ScenarioParts) (v f g : ℕ) → f ≤ g → Keeps (before_frame s f v) (before_frame s g v)
 frames_keep s v f zero le =
     let none : f ≡ zero = omega arith in
     subst (λ (i : ℕ). Keeps (before_frame s i v) (before_frame s zero v)) (sym none) (keeps_same (before_frame s zero v))
@@ -208,7 +208,7 @@ other_rank s rank other f less a b first second node from boot stream =
     let same = ap (λ (u : ℕ). rank_in (state_at s f u)) from in
     absurd (omega (arith, one, two, same))
 
-past_frame : (s : ScenarioParts) (rank f : ℕ) (a : Delivery) → IsFrom s rank f a → IsPast a.boot a.stream (a.seq + 1) (before_frame s (suc f) a.from)
+pub past_frame : (s : ScenarioParts) (rank f : ℕ) (a : Delivery) → IsFrom s rank f a → IsPast a.boot a.stream (a.seq + 1) (before_frame s (suc f) a.from)
 unfolding before_frame
 past_frame s rank f a is =
     let p = is.plan in

@@ -24,9 +24,9 @@ use Rattle.law_packets.specs.Sendings.{AreSentInOrder, AreSentOnce, InSentOrder}
 use Rattle.law_packets.proofs.SentPackets.{sent_so}
 
 -- a packet that is sent, as a delivery of it at no node
-record IsOf (a : Delivery) (t : SentPacket) : Type 0 where
-  nowhere : a.node ≡ 0
-  same : packet_delivered a ≡ t.packet
+pub record IsOf (a : Delivery) (t : SentPacket) : Type 0 where
+  pub nowhere : a.node ≡ 0
+  pub same : packet_delivered a ≡ t.packet
 
 in_sent_order : (t u : SentPacket) (a b : Delivery) → IsOf a t → IsOf b u → InOrder a b → InSentOrder t u
 in_sent_order t u a b first second order node boot stream =
@@ -40,17 +40,17 @@ in_sent_order t u a b first second order node boot stream =
 
 module _ (s : ScenarioParts) where
   -- said in slot j of the round by this plan, and in a round of this rank and frame
-  record IsSentBy (rank f : ℕ) (p : Plan) (j : ℕ) (t : SentPacket) : Type 0 where
-    delivery : Delivery
-    of : IsOf delivery t
-    said : IsSaidIn s rank f p j delivery
+  pub record IsSentBy (rank f : ℕ) (p : Plan) (j : ℕ) (t : SentPacket) : Type 0 where
+    pub delivery : Delivery
+    pub of : IsOf delivery t
+    pub said : IsSaidIn s rank f p j delivery
 
   record IsSentFrom (rank f : ℕ) (t : SentPacket) : Type 0 where
     delivery : Delivery
     of : IsOf delivery t
     from : IsFrom s rank f delivery
 
-  sent_by : (rank f : ℕ) (p : Plan) (j : ℕ) (t : SentPacket) → sent_in_slot s rank f p (state_at s f) j ≡ Some t → IsSentBy rank f p j t
+  pub sent_by : (rank f : ℕ) (p : Plan) (j : ℕ) (t : SentPacket) → sent_in_slot s rank f p (state_at s f) j ≡ Some t → IsSentBy rank f p j t
   sent_by rank f p j t is =
       let sent = sent_so s rank f p (state_at s f) j t is in
       record {

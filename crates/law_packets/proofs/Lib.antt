@@ -11,3 +11,7 @@ mod UsedNumbers
 mod PutLines
 mod FatesOfPuts
 mod HostedSums
+mod KeptPackets
+mod QueuedPackets
+mod WaitingPackets
+mod WorkedWaiting

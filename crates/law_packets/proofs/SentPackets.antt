@@ -54,7 +54,7 @@ module _ (s : ScenarioParts) (rank f : ℕ) (p : Plan) (states : ℕ → State) 
       by_part Closing is = absurd (cc)
 
   -- what somebody says in the slot its owner's node says
-  owner_says : (v : ℕ) (d : Data) → message_said (x.window v) ≡ Some (DataOf d)
+  pub owner_says : (v : ℕ) (d : Data) → message_said (x.window v) ≡ Some (DataOf d)
       → sent_in_slot s rank f p states j ≡ Some (record { frame = f; rank = rank; slot = j; packet = packet_of d })
   owner_says v d is =
       let slot = (says s rank f (part_of p j) v (before v) d is).slot in

@@ -22,7 +22,7 @@ use Rattle.law_packets.proofs.KeptByRounds.{frame_keeps}
 use Rattle.law_packets.proofs.ToldLines.{IsPutBy, is_told, state_told, told_more}
 
 -- of boot b, the next number of stream i is from low on; a later boot has others
-abbrev AreUsed : ℕ → ℕ → ℕ → State → Type 0
+abbrev pub AreUsed : ℕ → ℕ → ℕ → State → Type 0
 AreUsed b i low (StateOff boots) = b ≤ boots
 AreUsed b i low (StateOn c) = (b ≤ c.boot) × (c.boot ≡ b → low ≤ (stream_at c.streams i).next)
 
@@ -124,6 +124,31 @@ module _ (s : ScenarioParts) where
       one =
           ap (λ (t : Bool). fold state_after_line (state_told s l.node l.frame above) (if t then l ∷ [] else []))
           (and_from (l.node == l.node) (l.frame == l.frame) (eq-eqb l.node l.node refl) (eq-eqb l.frame l.frame refl))
+
+  -- and before a line below, of its frame or a later one
+  pub used_below : (above mid rest : List ScriptLine) (l m : ScriptLine) (x : PacketId) → s.script ≡ above ++ l ∷ (mid ++ m ∷ rest) → Puts above l x
+      → l.node ≡ m.node → l.frame ≤ m.frame → AreUsed x.boot x.stream (x.seq + 1) (state_told s m.node m.frame (above ++ l ∷ mid))
+  used_below above mid rest l m x whole puts node ascends = by_order (cases_lt l.frame m.frame)
+    where
+      Used : ℕ → ℕ → List ScriptLine → Type 0
+      Used v g told = AreUsed x.boot x.stream (x.seq + 1) (state_told s v g told)
+
+      behind : s.script ≡ (above ++ l ∷ []) ++ (mid ++ m ∷ rest)
+      behind = whole ∙ sym (append_assoc above (l ∷ []) (mid ++ m ∷ rest))
+
+      at_node : Used l.node m.frame (above ++ l ∷ mid) → Used m.node m.frame (above ++ l ∷ mid)
+      at_node used = subst (λ (v : ℕ). Used v m.frame (above ++ l ∷ mid)) node used
+
+      by_order : (l.frame < m.frame) ⊎ (m.frame ≤ l.frame) → Used m.node m.frame (above ++ l ∷ mid)
+      by_order (inl less) =
+          at_node (later_used x.boot x.stream (x.seq + 1) s l.node l.frame m.frame (above ++ l ∷ []) (mid ++ m ∷ rest) (above ++ l ∷ mid) behind less
+          (used_then above l x puts))
+      by_order (inr more) =
+          let frame : l.frame ≡ m.frame = omega (arith, ascends, more) in
+          let used : Used l.node l.frame ((above ++ l ∷ []) ++ mid) =
+          more_used x.boot x.stream (x.seq + 1) s l.node l.frame (above ++ l ∷ []) mid (used_then above l x puts) in
+          at_node (subst (λ (g : ℕ). Used l.node g (above ++ l ∷ mid)) frame
+          (subst (λ (ls : List ScriptLine). Used l.node l.frame ls) (append_assoc above (l ∷ []) mid) used))
 
   -- two lines put different packets
   pub not_both : (above mid rest : List ScriptLine) (l m : ScriptLine) (x : PacketId) → s.script ≡ above ++ l ∷ (mid ++ m ∷ rest) → Puts above l x

@@ -8,6 +8,7 @@ ghost use Rattle.bus_terms.specs.Fates.{bus_fates, counts_of, deliveries_of, hos
 ghost use Rattle.scenario_text.specs.OverLines.{IsOverScenario};
 ghost use Rattle.bus_terms.specs.Packets.{bus_puts, bus_sent};
 ghost use Rattle.law_packets.specs.Sendings.{AreOfSentPackets, AreQueuedOnce, AreSentInOrder, AreSentOnce, WerePut};
+ghost use Rattle.law_packets.specs.Waiting.{WaitInQueues};
 
 /// Each put line has one fate, in the order of the text.
 pub fn each_put_has_one_fate()
@@ -44,4 +45,10 @@ pub fn packets_are_sent_once()
 pub fn sent_packets_were_put()
     ensures put { (s : ScenarioParts) → WerePut s }
     ensures once { (s : ScenarioParts) → AreQueuedOnce (bus_puts s) }
+{}
+
+/// A packet that a put line queued is said to wait if and only if it is in the queue of its stream after the last frame: at the
+/// node of the line, which is on, and in the boot in which it was put.
+pub fn waiting_packets_are_queued()
+    ensures { (s : ScenarioParts) → IsOverScenario s → WaitInQueues s }
 {}
