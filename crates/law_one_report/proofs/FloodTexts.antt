@@ -1,8 +1,7 @@
 -- What a flood text says is sound, and its starting node has an id.
-use Rattle.std.proofs.Common.{◌≡◌, ℕ, ◌≤◌, List, true, Option, Some, None, Ok, Err, IfOk, IfSome, Result, refl, sym, subst, length, ◌+◌, nat_le}
+use Rattle.std.proofs.Common.{◌≡◌, ℕ, ◌≤◌, List, true, Option, Some, None, Ok, Err, IfOk, IfSome, Result, refl, sym, subst, length, ◌+◌}
 use Rattle.std.specs.Option.{ok_or}
 use Rattle.std.specs.Str.Lines.{lines}
-use Rattle.std.proofs.lemmas.Bool.{and_parts, leb-true}
 use Rattle.text_readers.specs.Faults.{draft_after_lines, in_line, ◌>>=◌}
 use Rattle.text_readers.specs.Reading.{draft_after_line}
 use Rattle.text_readers.specs.Words.{words}

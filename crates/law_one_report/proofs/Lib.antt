@@ -1,5 +1,6 @@
 mod FloodTexts
 mod SameDecisions
+mod SameRuns
 mod SameReports
 mod SameLosses
 mod SamePlanReports

@@ -4,9 +4,11 @@ use Rattle.law_one_report.proofs.one_report.a_command_has_one_report.Goals as go
 pub returns : goal.returns
 returns c =
     one_report (record {
-      log = c.a_scenario_has_one_lawful_log.ensures;
-      text = c.a_scenario_has_one_log_text.ensures;
-      cost = c.a_scenario_has_one_cost.ensures;
+      runs = record {
+        log = c.a_scenario_has_one_lawful_log.ensures;
+        text = c.a_scenario_has_one_log_text.ensures;
+        cost = c.a_scenario_has_one_cost.ensures;
+      };
       flood = c.a_flood_has_one_log.ensures;
       clocks = c.stated_clocks_keep_the_drift_law.ensures;
       drift = c.scenario_clocks_keep_the_drift_law.ensures;
