@@ -120,7 +120,7 @@ def test_a_stream_that_is_left() -> None:
     """Puts after it are dropped, and it may be requested again."""
     network = Scenario(60, 2, 2).node(1).node(2).host(0, 1).pair(1, 2, 0.9).on().stream(2, 10, seconds=30).every(10, 2, start=31, until=200)
     network.leave(2, seconds=90).stream(2, 10, seconds=150)
-    came = counting.came(network, 1)
+    came = counting.came(network, 1).by_stream({(2, 0): frozenset({1})})[2, 0]
     assert len(came.put) == 17 and set(came.put[came.of].tolist()) <= {31.0 + 10 * number for number in (*range(6), *range(12, 17))}
 
 

@@ -23,9 +23,11 @@ import foldcairn
 from foldcairn import planning
 from foldcairn.__main__ import main
 from foldcairn.common.arguments import ArgumentError
+from foldcairn.model.receivers import streams_of
 from foldcairn.model.scenario import Scenario, random_geometric
 from foldcairn.plan import Plan
 from foldcairn.requirements import counting, membership, shown, status, verdicts
+from foldcairn.runs import numbers
 
 LEVELS = asked("levels", tag="level", share=0.9)
 
@@ -62,14 +64,16 @@ def _network(seed: int) -> Scenario:
 def test_counts_are_those_of_planning(seed: int) -> None:
     """The same packets, deliveries and latencies as `planning.latencies` and `planning.packets` have of a report."""
     network = _network(seed)
-    report, came = foldcairn.outcome(network, seed), counting.came(network, seed)
+    whom = dict.fromkeys(streams_of(network), frozenset(network.nodes))
+    report, came = foldcairn.outcome(network, seed), counting.came(network, seed).by_stream(whom)
     told = planning.latencies(report, receivers="all")
-    latencies = sorted(zip(came.at.tolist(), (came.seconds - came.put[came.of]).round(6).tolist()))
-    assert latencies == sorted(zip(told["node"].tolist(), told["planned_latency_seconds"].round(6).tolist()))
+    latencies = [pair for one in came.values() for pair in zip(one.at.tolist(), (one.seconds - one.put[one.of]).round(6).tolist())]
+    assert sorted(latencies) == sorted(zip(told["node"].tolist(), told["planned_latency_seconds"].round(6).tolist()))
     packets = planning.packets(report).query("not keep_alive")
-    assert sorted(came.put.tolist()) == sorted(packets["put_seconds"].tolist())
-    at_two = counting.came(network, seed, nodes=[2])
-    assert (at_two.seconds == came.seconds[came.at == 2]).all() and set(at_two.at.tolist()) <= {2}
+    assert sorted(second for one in came.values() for second in one.put.tolist()) == sorted(packets["put_seconds"].tolist())
+    at_two = counting.came(network, seed, nodes=[2]).by_stream(whom)
+    for stream, one in came.items():
+        assert (at_two[stream].seconds == one.seconds[one.at == 2]).all() and set(at_two[stream].at.tolist()) <= {2}
 
 
 def test_a_share_is_that_of_planning(threads: Executor) -> None:
@@ -100,7 +104,7 @@ def test_members_and_batteries() -> None:
     # The host goes off in frame 40, and there is no other one: the others search to the end of the time for which they are watched.
     after = membership.back_seconds(network.copy().off(1, seconds=200), 1, 30.0, 200.0)
     assert membership.back_seconds(network, 1, 30.0, 200.0) == {1: 0.0, 2: 0.0, 3: 0.0} and after[2] == after[3] >= 4 * 30
-    cost = counting.came(network, 1).cost
+    cost = numbers.cost(network, 1)
     years = membership.years(network, 1, cost, {1: None, 2: 2600.0, 3: 2600.0}, {"sleep_ma": 0.01})
     lives = planning.battery_life(foldcairn.run(network, progress=False), capacity_mah=2600, sleep_ma=0.01, start_seconds=36 * 5.0)
     assert years[1] == float("inf")

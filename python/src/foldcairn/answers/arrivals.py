@@ -1,9 +1,10 @@
-"""What was put and what arrived, worked out in one place for all answers: packet by packet of a log, of a report without one and of a seed
-(`Arrivals`), and summed up over many seeds (`Sums`).
+"""What was put and what arrived, worked out in one place for all answers: packet by packet of a log, of a report without one, of a seed and of a
+draw (`Arrivals`), and summed up over many seeds (`Sums`).
 
 For whom a packet is meant is the rule of `model.receivers`. A delivery counts where its node is one of these; of a packet that is meant for
 whichever host serves, that is the host of the round in which its node transmitted it first, and it counts where the host received it in that
-round. The rows of `fates`, the pairs of `delivery`, and the numbers of `many.tallies` are views of this. Tested, not proved.
+round. The rows of `fates`, the pairs of `delivery`, the numbers of `many.tallies`, and what `requirements` measure of draws are views of this.
+Tested, not proved.
 """
 
 from __future__ import annotations
@@ -11,78 +12,95 @@ from __future__ import annotations
 from collections.abc import Mapping, Sequence
 from dataclasses import dataclass
 from functools import cached_property
-from io import BytesIO
-from typing import Protocol
+from typing import Any, Protocol
 
 import numpy as np
 import pandas as pd
 from numpy.typing import NDArray
 
 from ..common.arguments import ArgumentError
-from ..model.events import Put
+from ..model import moments
 from ..model.receivers import HOSTS, NO_HOST, Meant, hosts_of
 from ..model.scenario import Scenario
-from ..runs import program as programs, results
+from ..runs import numbers, program as programs, results
 from ..runs.results import PACKET, Log, Report, ReturnReport, plain_rows
 from . import puts
 
 Places = NDArray[np.int64]
 Numbers = NDArray[np.float64]
 Truths = NDArray[np.bool_]
+# Columns by their names, as a table or as arrays.
+Columns = Mapping[str, Any]
 
 # When and where a packet was first transmitted by its node.
 SENT = ["sent_frame", "rank", "sent_slot"]
-# What is read of a `deliver` line after its word; its payload comes after them.
-_DELIVER = ["frame", "rank", "slot", "node", "source", "boot", "stream", "number"]
+
+
+@dataclass(frozen=True, eq=False)
+class Came:
+    """What came of the packets of a stream that count and are meant for somebody: of each when it was `put`, in seconds; and of each delivery at a
+    node that it is meant for which packet it is `of`, `at` which node, and by when the node had received it at the latest, in `seconds` by plan."""
+
+    put: Numbers
+    of: Places
+    at: Places
+    seconds: Numbers
 
 
 @dataclass(frozen=True, eq=False)
 class Arrivals:
     """What was put and what arrived in one run.
 
-    put    a row for each `put` line, in the order in which they happen, with the columns of `results.fates`
+    told   the `put` lines in the order in which they happen, with what the script says of each when the run was asked for
+    put    a row for each of them, with the columns of `results.fates`; of a draw `frame`, `source`, `stream`, `boot`, `number`, `sent_frame` and
+           `rank`, the last two -1 also where nothing is known of a delivery
     came   a row for each delivery of one of these packets, with the index and in the order of the deliveries that were given: `place`, the row
-           of the packet in `put`, the `node`, the `frame`, and `host`, the node that hosts the round in which it came if that is the one in
-           which the packet was sent, else `receivers.NO_HOST`
+           of the packet in `put`, the `node`, the `frame` and `slot`, and `host`, the node that hosts the round in which it came if that is
+           the one in which the packet was sent, else `receivers.NO_HOST`
     """
 
     scenario: Scenario
+    told: puts.Puts
     put: pd.DataFrame
     came: pd.DataFrame
 
     @classmethod
-    def of(cls, scenario: Scenario, put: pd.DataFrame, deliveries: pd.DataFrame) -> Arrivals:
+    def of(cls, scenario: Scenario, told: puts.Puts, put: pd.DataFrame, deliveries: Columns) -> Arrivals:
         """What arrived by these deliveries, whose columns are those of `results.Report`. Those of packets that were not put are left out."""
-        place = _rows_of(results.codes(put), results.codes(deliveries))
-        known = deliveries[place >= 0]
-        place = place[place >= 0]
-        frame, rank = (known[name].to_numpy(dtype="int64") for name in ("frame", "rank"))
+        return cls._joined(scenario, told, put, deliveries, _rows_of(results.codes(put), results.codes(deliveries)))
+
+    @classmethod
+    def _joined(cls, scenario: Scenario, told: puts.Puts, put: pd.DataFrame, deliveries: Columns, place: Places) -> Arrivals:
+        """The same, where the row in `put` of the packet of each delivery is known, or -1."""
+        known, place = np.flatnonzero(place >= 0), place[place >= 0]
+        frame, rank, slot, node = (np.asarray(deliveries[name], dtype=np.int64)[known] for name in ("frame", "rank", "slot", "node"))
         in_round = (frame == put["sent_frame"].to_numpy()[place]) & (rank == put["rank"].to_numpy()[place])
-        host = np.where(in_round, hosts_of(scenario, known["rank"]), NO_HOST)
-        came = pd.DataFrame({"place": place, "node": known["node"].to_numpy(dtype="int64"), "frame": frame, "host": host}, index=known.index)
-        return cls(scenario, put, came)
+        host = np.where(in_round, hosts_of(scenario, rank), NO_HOST)
+        index = deliveries.index[known] if isinstance(deliveries, pd.DataFrame) else None
+        return cls(scenario, told, put, pd.DataFrame({"place": place, "node": node, "frame": frame, "slot": slot, "host": host}, index=index))
 
     @property
     def counted(self) -> Truths:
         """Which of the packets count: all but those that keep a stream alive."""
-        return np.array([puts.counts(self.scenario, put) for put in self._lines], dtype=bool)
+        return self.told.counted(self.scenario)
 
     @cached_property
-    def told(self) -> puts.Puts:
-        """The `put` lines, with what the script says of each."""
-        return puts.of_script(self.scenario)
-
-    @cached_property
-    def _lines(self) -> Sequence[Put]:
-        return puts.of(self.scenario)
+    def put_seconds(self) -> Numbers:
+        """When each packet was put, in seconds (`Scenario.put_seconds`)."""
+        return self.told.put_seconds(self.scenario)
 
     def meant(self, whom: Meant) -> pd.DataFrame:
         """The rows of `came` that count: of packets that count, at nodes that they are meant for; of a packet that a node delivered twice, as a
         recorded log may say, the first."""
-        source, stream = (self.put[name].to_numpy(dtype="int64") for name in ("source", "stream"))
+        return self.came.iloc[self._meant(whom)]
+
+    def _meant(self, whom: Meant) -> Places:
+        """The places in `came` of these rows."""
+        source, stream = self.told.columns["source"], self.told.columns["stream"]
         place, node, host = (self.came[name].to_numpy() for name in ("place", "node", "host"))
-        table = self.came[self.counted[place] & whom.is_for(source[place], stream[place], node, host)]
-        return table[~pd.Series(_pair(table)).duplicated().to_numpy()]
+        rows = np.flatnonzero(self.counted[place] & whom.is_for(source[place], stream[place], node, host))
+        once: Places = rows[~pd.Series(_pair(place[rows], node[rows])).duplicated().to_numpy()]
+        return once
 
     def pairs(self, whom: Meant) -> pd.DataFrame:
         """A row for each packet that counts and each node that it is meant for, by both: `place`, the row of the packet in `put`, the `node`, and
@@ -90,8 +108,23 @@ class Arrivals:
         rows = np.flatnonzero(self.counted)
         pairs = whom.pairs(self.put.iloc[rows])
         pairs["place"] = rows[pairs["place"].to_numpy()]
-        pairs["delivery"] = _rows_of(_pair(self.meant(whom)), _pair(pairs))
+        came = self.meant(whom)
+        pairs["delivery"] = _rows_of(*(_pair(table["place"].to_numpy(), table["node"].to_numpy()) for table in (came, pairs)))
         return pairs
+
+    def by_stream(self, whom: Meant) -> dict[tuple[int, int], Came]:
+        """What came of each stream that is meant for somebody."""
+        source, stream = self.told.columns["source"], self.told.columns["stream"]
+        group = whom.groups_of(source, stream)
+        packets = np.flatnonzero(self.counted & whom.is_for_any(source, stream, hosts_of(self.scenario, self.put["rank"].to_numpy(dtype="int64"))))
+        came, put, found, number = self._meant(whom), self.put_seconds, {}, np.zeros(len(group), dtype=np.int64)
+        place, node, frame, slot = (self.came[name].to_numpy()[came] for name in ("place", "node", "frame", "slot"))
+        seconds = planned_seconds(self.scenario, frame, slot)
+        for key, some, there in zip(whom.by_stream, _parts(group[packets], len(whom.by_stream)), _parts(group[place], len(whom.by_stream))):
+            ours = packets[some]
+            number[ours] = np.arange(len(ours))
+            found[key] = Came(put[ours], number[place[there]], node[there], seconds[there])
+        return found
 
     def at_nodes(self) -> pd.Series:
         """How many nodes delivered each packet."""
@@ -107,10 +140,21 @@ class Arrivals:
         return pd.Series(found, self.put.index)
 
 
-def _pair(table: pd.DataFrame) -> Places:
-    """One number for each row's packet and node."""
-    found: Places = table["place"].to_numpy(dtype="int64") * 1_024 + table["node"].to_numpy(dtype="int64")
-    return found
+def _pair(place: Places, node: Places) -> Places:
+    """One number for each packet and node."""
+    return place * 1_024 + node
+
+
+def _parts(group: Places, count: int) -> list[Places]:
+    """The places at which each of so many groups is, from 0 on."""
+    order = np.argsort(group, kind="stable")
+    return np.split(order, np.searchsorted(group[order], np.arange(1, count)))
+
+
+def planned_seconds(scenario: Scenario, frame: Any, slot: Any) -> Any:
+    """By when nodes had received what they delivered in these slots, at the latest, in seconds by plan: a slot ends where the next one starts, and
+    clocks may be late."""
+    return results.slot_seconds(scenario.profile, frame, slot + 1) + moments.late_seconds(scenario)
 
 
 def _rows_of(codes: Places, wanted: Places) -> Places:
@@ -136,8 +180,6 @@ def of_report(report: Report) -> Arrivals:
     found: Arrivals | None = report.__dict__.get("_arrivals")
     if found is None:
         found = report.__dict__["_arrivals"] = _of_report(report)
-        # Worked out now, since a line that is added to the scenario later was not in the run.
-        _ = found.told
     return found
 
 
@@ -149,7 +191,8 @@ def _of_report(report: Report) -> Arrivals:
         )
     if isinstance(report, Log) and not _can_be_asked():
         return by_lines(report)
-    found = Arrivals.of(report.scenario, results.fates_of(report), report.deliveries)
+    # By the script as it is now, since a line that is added to the scenario later was not in the run.
+    found = Arrivals.of(report.scenario, puts.of_script(report.scenario), results.fates_of(report), report.deliveries)
     if _agree(report, found):
         return found
     if isinstance(report, Log):
@@ -187,42 +230,52 @@ def sent_of(log: Log) -> pd.DataFrame:
 
 def by_lines(log: Log) -> Arrivals:
     """What was put and what arrived by the lines of a log and the script of its scenario."""
-    told = puts.of_script(log.scenario)
-    puts.drop_by_full_queues(told, log.drops)
-    put = told.table()
+    told, put = _by_script(log.scenario, plain_rows(log.drops, "frame", "node", "stream"))
     dropped, cleared = (np.array([why != "" for why in words], dtype=bool) for words in (told.dropped, told.cleared))
-    put["boot"] = put["boot"].where(~dropped, -1)
-    put["number"] = pd.Series(told.numbers(), dtype="int64")
     put = put.merge(sent_of(log)[[*PACKET, *SENT]], how="left", on=PACKET)
     became = np.select([dropped, put["sent_frame"].notna().to_numpy(), cleared], ["dropped", "sent", "cleared"], "waiting")
     put["became"] = pd.Categorical(became, categories=results.FATES)
     put["cleared_frame"] = np.where(became == "cleared", told.cleared_frame, -1)
     put = put.fillna(dict.fromkeys(SENT, -1))
-    found = Arrivals.of(log.scenario, put, log.deliveries)
+    found = Arrivals.of(log.scenario, told, put, log.deliveries)
     put["deliveries"], put["host_delivered"] = found.at_nodes(), found.at_hosts()
-    return Arrivals(log.scenario, put.astype(results.FATE_TYPES)[list(results.FATE_TYPES)], found.came)
+    return Arrivals(log.scenario, told, put.astype(results.FATE_TYPES)[list(results.FATE_TYPES)], found.came)
 
 
-# Of a seed.
+def _by_script(scenario: Scenario, drops: Sequence[tuple[int, ...]]) -> tuple[puts.Puts, pd.DataFrame]:
+    """The `put` lines by the script of a scenario and the `drop` lines of its run, and a row for each: `frame`, `source`, `stream`, and `boot` and
+    `number`, which are -1 where it was dropped."""
+    told = puts.of_script(scenario)
+    puts.drop_by_full_queues(told, drops)
+    boot = np.where(told.queued(), told.columns["boot"], -1)
+    return told, pd.DataFrame({**told.columns, "boot": boot, "number": told.numbers()})
+
+
+# Of a seed, and of a draw.
 
 
 def of_seed(scenario: Scenario, seed: int) -> Arrivals:
     """What was put and what arrived with the losses of a seed, by the numbers in the lines of the program's `outcome` and `fates`, which is
-    sooner than by their tables. Raises what `program.execute` raises."""
+    sooner than by their tables. Raises what `numbers.outcome` raises."""
+    deliveries = numbers.outcome(scenario, seed).deliveries
     text, planner = scenario.network_text(warn=False).encode(), programs.find_planner()
-    deliveries = _deliveries(programs.execute(["outcome", str(seed)], text, program=planner))
     rows = results.fate_rows(programs.execute(["fates", str(seed)], text, program=planner))
-    return Arrivals.of(scenario, pd.DataFrame(rows, columns=list(results.FATE_TYPES)), deliveries)
+    return Arrivals.of(scenario, puts.of_script(scenario), pd.DataFrame(rows, columns=list(results.FATE_TYPES)), deliveries)
 
 
-def _deliveries(output: bytes) -> pd.DataFrame:
-    """The numbers of the `deliver` lines, which come first."""
-    ends = [output.find(b"\n" + word) + 1 for word in (b"drop ", b"cost ")]
-    lines = output[: min([end for end in ends if end > 0], default=0)] if output.startswith(b"deliver ") else b""
-    if not lines:
-        return pd.DataFrame(columns=_DELIVER, dtype="int64")
-    return pd.read_csv(BytesIO(lines), sep=" ", header=None, usecols=range(1, 1 + len(_DELIVER)), names=["word", *_DELIVER, "payload"],
-                       dtype=dict.fromkeys(_DELIVER, "int64"), na_filter=False)  # fmt: skip
+def of_draw(scenario: Scenario, outcome: numbers.Outcome) -> Arrivals:
+    """What was put and what arrived by the lines of `outcome` and the script alone, without a call of `fates`, which takes as long: so of a packet that
+    no delivery is of nobody knows whether and when it was sent. Raises `program.CutOutput` where a delivery is of a packet that was not put, as
+    where drops are missing."""
+    told, put = _by_script(scenario, outcome.drops)
+    place = _rows_of(results.codes(put), results.codes(outcome.deliveries))
+    if (place < 0).any():
+        raise programs.CutOutput("the output of `outcome` has packets that the scenario has not, or some of its drops are missing")
+    for name, of in (("sent_frame", "frame"), ("rank", "rank")):
+        column = np.full(len(put), -1, dtype=np.int64)
+        column[place] = outcome.deliveries[of]
+        put[name] = column
+    return Arrivals._joined(scenario, told, put, outcome.deliveries, place)
 
 
 # Of many seeds.

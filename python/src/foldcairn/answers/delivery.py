@@ -13,9 +13,9 @@ import numpy as np
 import pandas as pd
 
 from ..common import arguments
-from ..model import doubts, moments
+from ..model import doubts
 from ..model.receivers import NO_HOST, Meant, Receivers, meant, stream_index
-from ..runs.results import PACKET, Log, Report, slot_seconds
+from ..runs.results import PACKET, Log, Report
 from . import arrivals, power
 from .answering import report_answer
 from .fates import packets
@@ -25,9 +25,7 @@ def _received(log: Report) -> pd.DataFrame:
     """The deliveries with `delivered_seconds`: when the node had received the packet, or by when at the latest where there is no log."""
     if isinstance(log, Log):
         return log.deliveries
-    # The slot ends by plan where the next one starts.
-    ends = slot_seconds(log.scenario.profile, log.deliveries["frame"], log.deliveries["slot"] + 1)
-    return log.deliveries.assign(delivered_seconds=ends + moments.late_seconds(log.scenario))
+    return log.deliveries.assign(delivered_seconds=arrivals.planned_seconds(log.scenario, log.deliveries["frame"], log.deliveries["slot"]))
 
 
 # The columns by which rows are told, for each word that `by` may be.

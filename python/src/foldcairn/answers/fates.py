@@ -53,7 +53,7 @@ def puts(report: Report) -> pd.DataFrame:
     dropped = [("" if word != "dropped" else why or script_puts.FULL_QUEUE) for word, why in zip(became, told.dropped)]
     cleared = [(why if word == "cleared" else "") for word, why in zip(became, told.cleared)]
     made = told.table()
-    made["put_seconds"] = pd.Series([report.scenario.put_seconds(put) for put in told.rows], dtype="float64")
+    made["put_seconds"] = found.put_seconds
     made["number"] = table["number"]
     made["payload"] = pd.Series([put.payload.hex() or "-" for put in told.rows], dtype="object")
     made["dropped"] = pd.Categorical(dropped, categories=["", script_puts.OFF, script_puts.NO_STREAM, script_puts.FULL_QUEUE])

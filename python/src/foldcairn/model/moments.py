@@ -17,6 +17,9 @@ from __future__ import annotations
 
 from typing import TYPE_CHECKING
 
+import numpy as np
+from numpy.typing import NDArray
+
 if TYPE_CHECKING:
     from .scenario import Scenario
 
@@ -31,6 +34,13 @@ def frame_of(seconds: float, frame_seconds: int) -> int:
 def frame_from(seconds: float, frame_seconds: int) -> int:
     """The first frame that starts at a time or after it."""
     return -frame_of(-seconds, frame_seconds)
+
+
+def frames_from(seconds: NDArray[np.float64], frame_seconds: int) -> NDArray[np.int64]:
+    """The first frame that starts at each time or after it, as `frame_from` has it of one."""
+    ticks = np.rint(seconds * _TICKS_A_SECOND).astype(np.int64)
+    found: NDArray[np.int64] = -(-ticks // (frame_seconds * _TICKS_A_SECOND))
+    return found
 
 
 def early_seconds(scenario: Scenario) -> dict[tuple[int, int], float]:

@@ -17,7 +17,7 @@ A packet is never meant for its own source. Of "hosts" one rule holds in all ans
   packets that were sent in the rounds of this host it received.
 - One whose source hosts that round itself is not counted.
 
-`Meant.is_for` is this rule, and `Meant.pairs` has all nodes that it names. Tested, not proved.
+`Meant.is_for` is this rule, `Meant.is_for_any` says which packets it counts, and `Meant.pairs` has all nodes that it names. Tested, not proved.
 """
 
 from __future__ import annotations
@@ -84,9 +84,21 @@ class Meant:
     def is_for(self, source: Ids, stream: Ids, node: Ids, host: Ids) -> Truths:
         """Whether packets are meant for nodes, one by one: packets by their `source` and `stream`, and by `host`, the node that hosts the round
         in which each was sent or received, `NO_HOST` where there is none."""
-        place, to_hosts, named = self._tables
-        group = place[4 * source + stream]
+        _, to_hosts, named = self._tables
+        group = self.groups_of(source, stream)
         found: Truths = np.where(to_hosts[group], node == host, named[group, node]) & (node != source)
+        return found
+
+    def is_for_any(self, source: Ids, stream: Ids, host: Ids) -> Truths:
+        """Whether packets are meant for any node, by the same words."""
+        _, to_hosts, named = self._tables
+        group = self.groups_of(source, stream)
+        found: Truths = np.where(to_hosts[group], host != source, named.sum(axis=1)[group] > named[group, source])
+        return found
+
+    def groups_of(self, source: Ids, stream: Ids) -> Ids:
+        """The places in `by_stream` of the streams of packets, and its length for all other streams."""
+        found: Ids = self._tables[0][4 * source + stream]
         return found
 
     @cached_property
@@ -107,8 +119,8 @@ class Meant:
         """A row for each packet and each node that it is meant for: `place`, its row in `packets`, and `node`, by both. The packets have
         `source`, `stream` and `rank`, that of the round in which they were sent, -1 where they never were: of these the node is `NO_HOST`
         where they are meant for whichever host serves."""
-        source, host = packets["source"].to_numpy(dtype="int64"), hosts_of(self.scenario, packets["rank"])
-        group = self._tables[0][4 * source + packets["stream"].to_numpy(dtype="int64")]
+        source, host = packets["source"].to_numpy(dtype="int64"), hosts_of(self.scenario, packets["rank"].to_numpy(dtype="int64"))
+        group = self.groups_of(source, packets["stream"].to_numpy(dtype="int64"))
         order = {stream: number for number, stream in enumerate(self.by_stream)}
         places, nodes = [np.empty(0, dtype="int64")], [np.empty(0, dtype="int64")]
         for chosen, streams in self.groups():
@@ -121,10 +133,13 @@ class Meant:
         return pd.DataFrame({"place": place[kept], "node": node[kept]})
 
 
-def hosts_of(scenario: Scenario, ranks: pd.Series) -> Ids:
-    """The node that hosts each of these ranks, `NO_HOST` for a rank that none hosts."""
-    found: Ids = ranks.map(scenario.hosts).fillna(NO_HOST).to_numpy(dtype="int64")
-    return found
+def hosts_of(scenario: Scenario, ranks: Ids) -> Ids:
+    """The node that hosts each of these ranks, `NO_HOST` for a rank that none hosts, as -1."""
+    # The last place is that of -1, counted from the end.
+    found = np.full(max(scenario.hosts, default=0) + 2, NO_HOST, dtype=np.int64)
+    found[list(scenario.hosts)] = list(scenario.hosts.values())
+    hosts: Ids = found[ranks.clip(-1, len(found) - 1)]
+    return hosts
 
 
 def meant(scenario: Scenario, receivers: Receivers = None) -> Meant:

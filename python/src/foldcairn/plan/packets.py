@@ -7,14 +7,13 @@ from collections.abc import Iterator
 import numpy as np
 from numpy.typing import NDArray
 
-from ..model import lines
+from ..model import lines, moments
 from ..model.events import Put, Stream as Request
 from . import chance
 from .happening import Cut
 from .model import Settings, Stream
 from .words import DRAWN
 
-_TICKS_A_SECOND = 64_000_000
 INTERVAL_MOST = 120
 # A payload without a length of its own: the id, and the number of the packet.
 _BYTES = 3
@@ -71,17 +70,10 @@ def times(stream: Stream, start: float, end: float, seed: int | None) -> NDArray
     return found[found < end]
 
 
-def frames_from(seconds: NDArray[np.float64], frame_seconds: int) -> NDArray[np.int64]:
-    """The first frame that starts at each time or after it, as `moments.frame_from`."""
-    ticks = np.rint(seconds * _TICKS_A_SECOND).astype(np.int64)
-    found: NDArray[np.int64] = -(-ticks // (frame_seconds * _TICKS_A_SECOND))
-    return found
-
-
 def puts(stream: Stream, node: int, when: NDArray[np.float64], profile: int, frames: int) -> list[Put]:
     """A packet at each of these times, with payloads that differ: the id of the node, and the packet's number."""
     number, size = stream.number or 0, length(stream)
-    at = frames_from(when, lines.frame_seconds(profile))
+    at = moments.frames_from(when, lines.frame_seconds(profile))
     return [
         Put(frame, node, number, (bytes([node]) + (count & 0xFFFF).to_bytes(2, "big") + bytes(max(0, size - _BYTES)))[:size], seconds)
         for count, (frame, seconds) in enumerate(zip(at.tolist(), when.tolist())) if frame < frames
@@ -94,5 +86,5 @@ def alive(stream: Stream, node: int, first: int, every: float, profile: int, fra
     when = np.arange(first * frame, frames * frame, every, dtype=np.float64) if every > 0 else np.array([], dtype=np.float64)
     return [
         Put(at, node, stream.number or 0, b"", seconds)
-        for at, seconds in zip(frames_from(when, frame).tolist(), when.tolist()) if at < frames
+        for at, seconds in zip(moments.frames_from(when, frame).tolist(), when.tolist()) if at < frames
     ]  # fmt: skip

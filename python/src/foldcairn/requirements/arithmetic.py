@@ -21,10 +21,10 @@ from ..model.events import Put
 from ..model.scenario import Scenario
 from ..plan import packets
 from ..plan.model import Requirement, Stream
+from ..runs.numbers import Numbers
 from ..runs.results import ROUND_SECONDS, TICKS_A_SECOND
 from . import measuring
 from .cases import Case
-from .counting import Numbers
 
 if TYPE_CHECKING:
     from ..plan.plan import Plan

@@ -12,14 +12,15 @@ import numpy as np
 import pandas as pd
 from numpy.typing import NDArray
 
+from ..answers.arrivals import Came
 from ..common import progress as bars
 from ..many import executors
 from ..many.sweep import SweepStopped
 from ..model.receivers import ALL, HOSTS
 from ..model.scenario import Scenario
 from ..plan.model import Stream
+from ..runs.numbers import Cost, Numbers
 from . import counting, measuring, membership
-from .counting import Came, Cost, Numbers
 
 if TYPE_CHECKING:
     from ..plan.plan import Plan
@@ -83,7 +84,9 @@ def _of_draw(plan: Plan, network: Scenario, seed: int, with_packets: bool) -> di
     wanted = set(network.hosts.values()).union(*(one for one in whom.values() if one is not None))
     came = counting.came(network, seed, nodes=wanted)
     lives = _years(plan, network, seed, came.cost, ids)
-    seen = {stream.name: _Seen.of(came, stream, ids[stream.source], whom[stream.name]) for stream in plan.streams.values()}
+    keys = {stream.name: (ids[stream.source], stream.number or 0) for stream in plan.streams.values()}
+    ours = came.by_stream({keys[name]: receivers for name, receivers in whom.items()})
+    seen = {name: _Seen.of(ours[keys[name]], stream, len(whom[name] or [0]), network) for name, stream in plan.streams.items()}
     found = {
         "latencies": pd.concat([pd.DataFrame({"stream": name, "seed": seed, "seconds": one.took}) for name, one in seen.items()] or [pd.DataFrame()]),
         "streams": pd.DataFrame([(name, seed, *one.shares()) for name, one in seen.items()], columns=["stream", "seed", "packets", "in_time", "arrived"]),
@@ -115,26 +118,17 @@ class _Seen:
     parts: tuple[float, float]
 
     @classmethod
-    def of(cls, came: Came, stream: Stream, source: int, receivers: frozenset[int] | None) -> _Seen:
-        """What came of a stream of this source, at these receivers or at whichever host serves."""
-        network = came.scenario
-        hosts = np.array([network.hosts.get(rank, -1) for rank in range(4)])
-        key = (source, stream.number or 0)
-        ours = came.stream == (came.streams.index(key) if key in came.streams else -1)
-        if receivers is None:
-            # What its source hosts itself is meant for nobody.
-            ours[came.of[hosts[came.rank] == source]] = False
-        arrived = ours[came.of] & (came.at == hosts[came.rank] if receivers is None else np.isin(came.at, list(receivers)))
-        of, took = came.of[arrived], came.seconds[arrived] - came.put[came.of[arrived]]
-        several = 1 if receivers is None else max(len(receivers), 1)
-        last = np.full(len(came.put), -np.inf)
+    def of(cls, came: Came, stream: Stream, several: int, network: Scenario) -> _Seen:
+        """What came of a stream, each of whose packets is meant for so many receivers."""
+        put, of, took = came.put, came.of, came.seconds - came.put[came.of]
+        last = np.full(len(put), -np.inf)
         np.maximum.at(last, of, took)
         last[np.bincount(of, minlength=len(last)) < several] = np.nan
         wait = _WAITING_FRAMES * network.frame_seconds
-        due = ours & (came.put <= network.seconds - (wait if stream.deadline is None else stream.deadline) + _LITTLE)
-        late = ours & (came.put <= network.seconds - wait + _LITTLE)
+        due = put <= network.seconds - (wait if stream.deadline is None else stream.deadline) + _LITTLE
+        late = put <= network.seconds - wait + _LITTLE
         in_time = float("nan") if stream.deadline is None else _part(due[of] & (took <= stream.deadline + _LITTLE), due, several)
-        return cls(came.put[ours], due[ours], last[ours], took, (in_time, _part(late[of], late, several)))
+        return cls(put, due, last, took, (in_time, _part(late[of], late, several)))
 
     def shares(self) -> tuple[int, float, float]:
         """How many packets were due, and the parts of them that came in time and at all."""

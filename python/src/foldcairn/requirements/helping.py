@@ -14,8 +14,8 @@ from ..model import lines
 from ..model.scenario import Scenario
 from ..plan import packets
 from ..plan.model import Requirement, Stream
-from ..runs import results
-from . import counting, judging, membership
+from ..runs import numbers, results
+from . import judging, membership
 from .cases import Case
 from .judging import Judgement, Rule, Unit
 
@@ -177,7 +177,7 @@ def _when_lost(asked: Wanted, stream: Stream, _: int) -> str:
 
 def _to_last(asked: Wanted) -> str:
     network = asked.draw.network
-    cost = counting.came(network, asked.draw.seed, nodes=()).cost
+    cost = numbers.cost(network, asked.draw.seed)
     place = cost.nodes.tolist().index(network.id(asked.worst))
     searching = float(cost.scanned_frames[place] * network.frame_seconds)
     on = searching + float(cost.window_seconds[place])

@@ -15,16 +15,16 @@ from dataclasses import dataclass, field, replace
 from typing import TYPE_CHECKING
 
 import numpy as np
-from numpy.typing import NDArray
 
-from ..common.limits import MOST_RANKS
+from ..answers import arrivals
 from ..model.receivers import ALL, HOSTS
 from ..model.scenario import Scenario, ScenarioWarning
 from ..plan.model import Requirement, Stream
 from ..plan.words import BATTERY
+from ..runs.numbers import Numbers, Places
 from . import counting, membership
 from .cases import Case
-from .counting import Came, Numbers, Places
+from .counting import Came
 
 if TYPE_CHECKING:
     from ..plan.drawing import Drawer
@@ -36,7 +36,6 @@ _LITTLE = 1e-9
 _WAITING_FRAMES = 12
 # Of each unit its value in a draw, or None, and of how many packets it is.
 Values = dict[str, "tuple[float | None, int]"]
-Truths = NDArray[np.bool_]
 
 
 @dataclass(frozen=True)
@@ -97,22 +96,6 @@ def quiet() -> Iterator[None]:
 
 
 @dataclass(frozen=True, eq=False)
-class Own:
-    """What came of a stream: of each of its packets when it was `put`; and of each delivery which packet it is `of`, `at` which node, in a round of
-    which `rank`, and by when, in `seconds`."""
-
-    put: Numbers
-    of: Places
-    at: Places
-    rank: Places
-    seconds: Numbers
-
-
-_NO_TIME, _NO_PLACE = np.array([], dtype=np.float64), np.array([], dtype=np.int64)
-_NOTHING = Own(_NO_TIME, _NO_PLACE, _NO_PLACE, _NO_PLACE, _NO_TIME)
-
-
-@dataclass(frozen=True, eq=False)
 class Counted:
     """The packets of a stream that count: when each was `put`, at how many receivers in time it is to be (`several`), and of each delivery in
     time which packet it is `of`."""
@@ -155,12 +138,8 @@ class Draw:
         if requirement.years is not None:
             return {name: (years, 0) for name, years in self._named(requirement, self._years).items()}
         if requirement.outage is not None:
-            return {stream.name: self.outage(stream, receivers) for stream, receivers in self.units(requirement)}
-        found: Values = {}
-        for stream, receivers in self.units(requirement):
-            counted = self.counted(requirement, stream, receivers)
-            found[stream.name] = counted.share, len(counted.put)
-        return found
+            return self.outages(requirement)
+        return {name: (counted.share, len(counted.put)) for name, counted in self.counted(requirement).items()}
 
     # Streams.
 
@@ -172,20 +151,6 @@ class Draw:
             for _, receivers in self.units(requirement):
                 wanted |= set(self.network.hosts.values()) if receivers is None else receivers
         return counting.came(self.network, self.seed, nodes=wanted)
-
-    @functools.cached_property
-    def _own(self) -> Mapping[tuple[int, int], Own]:
-        """What came of each stream."""
-        came, found = self.came, {}
-        order, packets = np.argsort(came.stream[came.of], kind="stable"), np.argsort(came.stream, kind="stable")
-        streams = np.arange(len(came.streams) + 1)
-        ends, bounds = np.searchsorted(came.stream[came.of][order], streams), np.searchsorted(came.stream[packets], streams)
-        local = np.empty(len(packets), dtype=np.int64)
-        for place, key in enumerate(came.streams):
-            ours, there = packets[bounds[place] : bounds[place + 1]], order[ends[place] : ends[place + 1]]
-            local[ours] = np.arange(len(ours))
-            found[key] = Own(came.put[ours], local[came.of[there]], came.at[there], came.rank[there], came.seconds[there])
-        return found
 
     def units(self, requirement: Requirement | None) -> list[tuple[Stream, frozenset[int] | None]]:
         """The streams that a requirement is about, or all of them, with the nodes that their packets are meant for, or None for whichever host
@@ -202,28 +167,24 @@ class Draw:
         names = self.ids if to == ALL else [to] if isinstance(to, str) else to
         return frozenset(self.ids[name] for name in names if name in self.ids and name not in (stream.source, self.task.case.failed))
 
-    def arrived(self, stream: Stream, receivers: frozenset[int] | None) -> tuple[Own, Truths, Truths]:
-        """What came of a stream, which of its packets count, and which of the deliveries are at their receivers."""
-        source = self.ids[stream.source]
-        own = self._own.get((source, stream.number or 0), _NOTHING)
-        ours = np.ones(len(own.put), dtype=bool)
-        if receivers is not None:
-            return own, ours, np.isin(own.at, list(receivers))
-        hosts = np.array([self.network.hosts.get(rank, -1) for rank in range(MOST_RANKS)])
-        # What its source hosts itself is meant for nobody.
-        ours[own.of[hosts[own.rank] == source]] = False
-        return own, ours, (own.at == hosts[own.rank]) & ours[own.of]
+    def _arrived(self, requirement: Requirement | None) -> list[tuple[Stream, frozenset[int] | None, arrivals.Came]]:
+        """The units with what came of each."""
+        units = [((self.ids[stream.source], stream.number or 0), stream, receivers) for stream, receivers in self.units(requirement)]
+        found = self.came.by_stream({key: receivers for key, _, receivers in units})
+        return [(stream, receivers, found[key]) for key, stream, receivers in units]
 
-    def counted(self, requirement: Requirement, stream: Stream, receivers: frozenset[int] | None) -> Counted:
-        """The packets that count, and which came in time, or at all."""
-        own, ours, arrived = self.arrived(stream, receivers)
-        deadline = self._deadline(requirement, stream)
-        due = ours & (own.put <= self.latest(deadline)) & (own.put >= self.task.case.seconds)
-        arrived &= due[own.of]
-        if deadline is not None:
-            arrived &= own.seconds - own.put[own.of] <= deadline + _LITTLE
-        places = np.cumsum(due) - 1
-        return Counted(own.put[due], places[own.of[arrived]], 1 if receivers is None else len(receivers))
+    def counted(self, requirement: Requirement) -> dict[str, Counted]:
+        """By stream the packets that count, and which came in time, or at all."""
+        found = {}
+        for stream, receivers, ours in self._arrived(requirement):
+            deadline = self._deadline(requirement, stream)
+            due = (ours.put <= self.latest(deadline)) & (ours.put >= self.task.case.seconds)
+            arrived = due[ours.of]
+            if deadline is not None:
+                arrived &= ours.seconds - ours.put[ours.of] <= deadline + _LITTLE
+            places = np.cumsum(due) - 1
+            found[stream.name] = Counted(ours.put[due], places[ours.of[arrived]], 1 if receivers is None else len(receivers))
+        return found
 
     def latest(self, deadline: float | None) -> float:
         """Up to when packets with a deadline, or without one, are put that count."""
@@ -234,18 +195,20 @@ class Draw:
         """How late a packet may be, or None where it only has to arrive."""
         return None if requirement.share is None else stream.deadline if requirement.deadline is None else requirement.deadline
 
-    def outage(self, stream: Stream, receivers: frozenset[int] | None) -> tuple[float | None, int]:
-        """How long nothing arrived after the failure, from it or from the first packet that was put then, to the first delivery; at several
+    def outages(self, requirement: Requirement | None) -> Values:
+        """By stream how long nothing arrived after the failure, from it or from the first packet that was put then, to the first delivery; at several
         receivers the longest."""
+        return {stream.name: (self._outage(ours, receivers), 0) for stream, receivers, ours in self._arrived(requirement)}
+
+    def _outage(self, ours: arrivals.Came, receivers: frozenset[int] | None) -> float | None:
         failure = self.task.case.seconds
-        own, ours, arrived = self.arrived(stream, receivers)
-        put = own.put[ours & (own.put >= failure)]
+        put = ours.put[ours.put >= failure]
         if not len(put):
-            return None, 0
+            return None
         start = max(failure, float(put.min()))
-        after = arrived & (own.seconds >= start)
-        firsts = [_first(own.seconds[after & (own.at == node)], self.network) for node in receivers or ()]
-        return max(firsts, default=_first(own.seconds[after], self.network)) - start, 0
+        after = ours.seconds >= start
+        firsts = [_first(ours.seconds[after & (ours.at == node)], self.network) for node in receivers or ()]
+        return max(firsts, default=_first(ours.seconds[after], self.network)) - start
 
     # Nodes.
 

@@ -16,8 +16,8 @@ import pandas as pd
 from ..answers import power, radio
 from ..model import moments
 from ..model.scenario import Scenario
-from . import counting
-from .counting import Cost
+from ..runs import numbers
+from ..runs.numbers import Cost, Numbers
 
 # A start takes a tenth of the run, and so many frames at least: it is gone through once in the life of a battery.
 _START_PART, _START_FRAMES = 0.1, 36
@@ -65,7 +65,7 @@ def _scanned(network: Scenario, seed: int, frames: int) -> dict[int, int]:
     """In how many frames each node searched for a host, of the first so many."""
     if not frames:
         return {}
-    cost = counting.came(begun(network, frames), seed, nodes=()).cost
+    cost = numbers.cost(begun(network, frames), seed)
     return dict(zip(cost.nodes.tolist(), cost.scanned_frames.tolist()))
 
 
@@ -74,7 +74,7 @@ def years(network: Scenario, seed: int, whole: Cost, capacities: Mapping[int, fl
     where it takes no current. `currents` has words of `planning.battery_life`."""
     count = min(network.frames // 2, max(_START_FRAMES, int(_START_PART * network.frames)))
     start = begun(network, count)
-    early = counting.came(start, seed, nodes=()).cost if count else None
+    early = numbers.cost(start, seed) if count else None
     spent = _spent(network, whole) - (_spent(start, early) if early is not None else 0.0)
     table = pd.DataFrame(spent, columns=["powered_seconds", "transmit_seconds", "on_seconds", "searching_seconds"])
     mean = radio.lives_of(table.assign(node=whole.nodes), **currents)["mean_ma"].to_numpy(dtype=np.float64)
@@ -85,12 +85,12 @@ def years(network: Scenario, seed: int, whole: Cost, capacities: Mapping[int, fl
     return found
 
 
-def _spent(network: Scenario, cost: Cost) -> counting.Numbers:
+def _spent(network: Scenario, cost: Cost) -> Numbers:
     """Of each node how long it had power, transmitted, was on and searched, in seconds."""
     boots = power.boots(network)
     powered = (boots["off_seconds"] - boots["on_seconds"]).groupby(boots["node"]).sum()
     searching = cost.scanned_frames * float(network.frame_seconds)
-    found: counting.Numbers = np.stack(
+    found: Numbers = np.stack(
         [powered.reindex(cost.nodes, fill_value=0.0).to_numpy(dtype=np.float64), cost.transmit_seconds, cost.window_seconds + searching, searching], axis=1
     )
     return found

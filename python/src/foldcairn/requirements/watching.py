@@ -37,7 +37,7 @@ def _watched(draw: Draw) -> dict[str, Any]:
     cost = draw.came.cost
     names = draw.network.labels
     return {
-        "silent": {stream.name: draw.outage(stream, receivers)[0] for stream, receivers in draw.units(None)},
+        "silent": {name: seconds for name, (seconds, _) in draw.outages(None).items()},
         "searched": {names[node]: frames for node, frames in zip(cost.nodes.tolist(), cost.scanned_frames.tolist())},
         "later": [_later(draw, requirement) for requirement in draw.task.requirements],
     }
@@ -54,11 +54,10 @@ def _later(draw: Draw, requirement: Requirement) -> dict[str, list[Any]]:
         return {}
     start, found = draw.task.case.seconds, {}
     step = step_seconds(start, draw.network.seconds, draw.network.frame_seconds)
-    for stream, receivers in draw.units(requirement):
-        counted = draw.counted(requirement, stream, receivers)
+    for name, counted in draw.counted(requirement).items():
         place = np.minimum(STEPS, ((counted.put - start) / step).astype(np.int64))
         due, came = np.bincount(place, minlength=STEPS + 1), np.bincount(place[counted.of], minlength=STEPS + 1)
-        found[stream.name] = [counted.several, due.tolist(), came.tolist()]
+        found[name] = [counted.several, due.tolist(), came.tolist()]
     return found
 
 

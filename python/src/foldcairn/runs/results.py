@@ -15,7 +15,7 @@ import hashlib
 import os
 import tempfile
 import warnings
-from collections.abc import Sequence
+from collections.abc import Mapping, Sequence
 from dataclasses import dataclass, field, replace
 from functools import cached_property
 from io import BytesIO
@@ -752,9 +752,9 @@ def _delivered_seconds(deliveries: pd.DataFrame, receptions: pd.DataFrame, decod
 _NODE_BITS = 34
 
 
-def codes(packets: pd.DataFrame) -> Numbers:
+def codes(packets: pd.DataFrame | Mapping[str, Numbers]) -> Numbers:
     """One number for each packet of a table with `source`, `boot`, `stream` and `number`, which all fit their parts."""
-    source, boot, stream, number = (packets[name].to_numpy(dtype="int64") for name in PACKET)
+    source, boot, stream, number = (np.asarray(packets[name], dtype=np.int64) for name in PACKET)
     found: Numbers = ((source * 256 + boot) * 4 + stream) * 65_536 + number
     return found
 
