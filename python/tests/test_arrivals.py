@@ -7,17 +7,19 @@ from collections import Counter
 from collections.abc import Mapping
 from dataclasses import replace
 
+import numpy as np
 import pandas as pd
 import pytest
 from networks import FAILOVER, log_of
 from test_hosts import failing
 
 from foldcairn import outcome, planning
-from foldcairn.answers import arrivals
+from foldcairn.answers import arrivals, puts
 from foldcairn.many import counts
-from foldcairn.model.receivers import NO_HOST, meant
+from foldcairn.model import moments
+from foldcairn.model.receivers import NO_HOST, hosts_of, meant
 from foldcairn.model.scenario import Put, Scenario
-from foldcairn.runs import losses, program, results
+from foldcairn.runs import losses, numbers, program, results
 
 # The worked failover: of node 3 the packet aa is sent in frame 9 in a round of rank 0, whose host is off, and bb in frame 31 in one of rank 1.
 # Node 2, which hosts rank 1, delivers both.
@@ -77,6 +79,90 @@ def test_what_nobody_put() -> None:
     assert told(log, "hosts") == told(log, 2) == ([0, 0, 0], [])
     seed = arrivals.of_seed(log.scenario, 1)
     assert seed.put.empty and seed.came.empty and seed.pairs(meant(log.scenario, "all")).empty
+
+
+# Draws: by the lines of `outcome` and the script alone.
+
+
+def test_what_came_of_a_stream() -> None:
+    """Of the failover, whose packets are put at 0 s and at 80 s. A frame takes 4 s, a round starts 1 s after it, and a slot takes 33 ms."""
+    network = results.log(FAILOVER).scenario
+    outcome = numbers.outcome(network, 1)
+    first, second = outcome.deliveries["slot"].tolist()
+    run = arrivals.of_draw(network, outcome)
+    ends = [9 * 4 + 1 + (first + 1) * 0.033, 31 * 4 + 1 + (second + 1) * 0.033]
+    for receivers, of in (("hosts", [1]), (2, [0, 1]), ([1, 2], [0, 1]), (1, [])):
+        came = run.by_stream(meant(network, receivers))[3, 0]
+        assert came.put.tolist() == [0.0, 80.0] and came.of.tolist() == of and came.at.tolist() == [2] * len(of)
+        assert came.seconds.tolist() == pytest.approx([ends[place] for place in of])
+    at_one = arrivals.of_draw(network, numbers.outcome(network, 1, nodes=[1])).by_stream(meant(network, "all"))[3, 0]
+    assert at_one.put.tolist() == [0.0, 80.0] and not len(at_one.of)
+
+
+def test_what_a_host_sends_in_its_own_rounds_is_for_no_host() -> None:
+    """All that it sent came at the other node, and the rest is waiting."""
+    network = Scenario(24, 2, 2).node(1).node(2).host(0, 1).pair(1, 2).on().stream(1, 20, seconds=30).every(20, 1, start=31)
+    run = arrivals.of_draw(network, numbers.outcome(network, 1))
+    named, hosts = (run.by_stream(meant(network, receivers))[1, 0] for receivers in (2, "hosts"))
+    assert named.put.tolist() == [31.0, 51.0, 71.0, 91.0, 111.0] and len(named.of)
+    assert sorted([*named.put[named.of].tolist(), *hosts.put.tolist()]) == named.put.tolist() and not len(hosts.of)
+
+
+def test_costs_alone_are_those_of_the_whole() -> None:
+    network = results.log(FAILOVER).scenario
+    whole, alone = numbers.outcome(network, 1).cost, numbers.cost(network, 1)
+    for name in ("nodes", "transmit_seconds", "window_seconds", "scanned_frames"):
+        assert getattr(whole, name).tolist() == getattr(alone, name).tolist()
+    assert whole.nodes.tolist() == [1, 2, 3]
+
+
+def restarted() -> Scenario:
+    """A packet before there is power, one before there is a stream, two of the first boot, and one of the second."""
+    made = Scenario(20, 2).node(1).node(2).host(0, 1).pair(1, 2).put(2, b"a", frame=0).on().put(2, b"b", frame=1).stream(2, 8, frame=2)
+    made.put(2, b"c", frame=3).put(2, b"d", frame=4).off(2, frame=6).on(2, frame=8).stream(2, 8, frame=8)
+    return made.put(2, b"e", frame=9)
+
+
+def test_the_numbers_of_packets() -> None:
+    told = puts.of_script(restarted())
+    assert told.dropped == [puts.OFF, puts.NO_STREAM, "", "", ""] and told.columns["boot"].tolist() == [0, 1, 1, 1, 2]
+    assert told.numbers().tolist() == [-1, -1, 0, 1, 0]
+    puts.drop_by_full_queues(told, [(0, 2, 0), (1, 2, 0), (3, 2, 0)])
+    assert told.dropped[2] == puts.FULL_QUEUE and told.numbers().tolist() == [-1, -1, -1, 0, 0]
+
+
+def test_a_queue_that_is_emptied_takes_16_in_the_same_frame() -> None:
+    made = Scenario(20, 2).node(1).node(2).host(0, 1).pair(1, 2).on().stream(2, 8, frame=2)
+    for count in (3, 17):
+        for _ in range(count):
+            made.put(2, b"a", frame=5)
+        made.leave(2, frame=5).stream(2, 8, frame=5)
+    told = puts.of_script(made)
+    puts.drop_by_full_queues(told, [(5, 2, 0)])
+    assert told.numbers().tolist() == [*range(19), -1]
+
+
+def test_when_packets_were_put() -> None:
+    """What was given in seconds, or the start of the frame where it was given as a frame, or where its time is in another one by now."""
+    made = Scenario(60, 2, 2).node(1).node(2).host(0, 1).pair(1, 2).on().put(2, b"a", seconds=133.3).put(2, b"b", frame=28)
+    told = puts.of_script(made)
+    assert told.columns["frame"].tolist() == [27, 28] and told.put_seconds(made).tolist() == [133.3, 140.0]
+    made.profile = 1
+    assert told.put_seconds(made).tolist() == [108.0, 112.0]
+    assert moments.frames_from(np.array([0.0, 4.0, 4.1, 0.3 * 420]), 4).tolist() == [0, 1, 2, 32]
+
+
+def test_packets_that_keep_a_stream_alive_do_not_count() -> None:
+    made = restarted().put(2, b"", frame=10).put(2, b"", stream=1, frame=10)
+    assert puts.of_script(made).counted(made).tolist() == [True] * 7
+    made.keep_alive.add((2, 0))
+    assert puts.of_script(made).counted(made).tolist() == [True] * 5 + [False, True]
+
+
+def test_who_hosts_a_rank() -> None:
+    made = Scenario(20, 2).node(7).node(9).host(0, 7).host(2, 9)
+    assert hosts_of(made, np.array([0, 1, 2, 3, -1])).tolist() == [7, NO_HOST, 9, NO_HOST, NO_HOST]
+    assert hosts_of(Scenario(20, 2), np.array([0, -1])).tolist() == [NO_HOST, NO_HOST]
 
 
 # Networks whose hosts fail.
