@@ -33,6 +33,20 @@ test("statuses are those of the programs", () => {
   assert.match(text(Foldcairn.run(module, ["draw"], "")), /^usage: draw/);
 });
 
+test("what was opened answers again and again, with the bytes of a fresh module", () => {
+  const kept = Foldcairn.open(module);
+  const asked = [["outcome", "1"], ["run"], ["fates", "2"], ["none"], ["log", "3"], ["outcome", "1"], ["bounds"], ["sample", "1", "3"]];
+  for (const words of [...asked, ...asked.reverse()]) {
+    const input = words.join() === "run" ? scenario : network, due = Foldcairn.run(module, words, input);
+    const { status, output } = kept.call(words, input);
+    assert.equal(status, due.status);
+    assert.equal(text({ output }), text(due));
+  }
+  const before = kept.memory();
+  for (let seed = 1; seed <= 50; seed++) kept.call(["outcome", String(seed)], network);
+  assert.equal(kept.memory(), before);
+});
+
 test("calls at once in workers, more than there are", async () => {
   const pool = new Foldcairn.Pool(module, 3);
   const answers = await Promise.all(Array.from({ length: 9 }, (_, i) => pool.run(i % 2 ? ["run"] : ["none"], scenario)));

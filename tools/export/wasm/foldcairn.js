@@ -2,19 +2,21 @@
 //
 //     const module = await Foldcairn.compile(bytes);                   // the bytes of foldcairn.wasm
 //     const { status, output } = Foldcairn.run(module, ["run"], text);   // here and at once
+//     const kept = Foldcairn.open(module);                             // keeps its memory from call to call, which is quicker;
+//     const { status, output } = kept.call(["outcome", "1"], text);    // the output is there until the next call
 //     const pool = new Foldcairn.Pool(module, 4);                      // in four workers
 //     const answer = await pool.run(["bus"], text, { signal });        // an AbortSignal ends it
 //     const seeds = await pool.sample(network, 1, 1000, { signal, progress: (done, all) => .. });
 //     pool.close();
 //
 // A text is a string or bytes, and an output is bytes. The statuses are those of the programs: 0, 1 for an input that is rejected, 2 for words
-// that are no command, 5 where memory runs out. It is a plain script, so that a page from a file can load it: it defines `Foldcairn`. In node
-// it is imported for that. Tested, not proved.
+// that are no command, 5 where memory runs out. What was opened is of no more use where a call has status 5 or throws. It is a plain script, so
+// that a page from a file can load it: it defines `Foldcairn`. In node it is imported for that. Tested, not proved.
 globalThis.Foldcairn = (() => {
   const isNode = typeof process === "object" && Boolean(process.versions?.node);
 
-  // This function is also the text of a worker, so it takes nothing from around it.
-  function runModule(module, words, input) {
+  // This function is also in the text of a worker, so it takes nothing from around it.
+  function openModule(module) {
     const { exports } = new WebAssembly.Instance(module, {});
     const encoder = new TextEncoder();
     const given = (bytes) => {
@@ -23,16 +25,24 @@ globalThis.Foldcairn = (() => {
       new Uint8Array(exports.memory.buffer, place, bytes.length).set(bytes);
       return place;
     };
-    const spelled = encoder.encode(words.map((word) => word + "\0").join(""));
-    const text = typeof input === "string" ? encoder.encode(input) : input;
-    const [first, second] = [given(spelled), given(text)];
-    if (first === 0 || second === 0) return { status: 5, output: new Uint8Array() };
-    const status = exports.call(first, spelled.length, second, text.length);
-    const output = new Uint8Array(exports.memory.buffer, exports.output() >>> 0, exports.output_length()).slice();
-    return { status, output };
+    const call = (words, input) => {
+      const spelled = encoder.encode(words.map((word) => word + "\0").join(""));
+      const text = typeof input === "string" ? encoder.encode(input) : input;
+      const [first, second] = [given(spelled), given(text)];
+      if (first === 0 || second === 0) return { status: 5, output: new Uint8Array() };
+      const status = exports.call(first, spelled.length, second, text.length);
+      return { status, output: new Uint8Array(exports.memory.buffer, exports.output() >>> 0, exports.output_length()) };
+    };
+    return { call, memory: () => exports.memory.buffer.byteLength };
+  }
+
+  function runModule(module, words, input) {
+    const { status, output } = openModule(module).call(words, input);
+    return { status, output: output.slice() };
   }
 
   const workerText = `
+    ${openModule}
     ${runModule}
     const answer = ({ module, words, input }) => {
       try { return runModule(module, words, input); } catch (error) { return { error: String(error) }; }
@@ -161,5 +171,5 @@ globalThis.Foldcairn = (() => {
     return whole;
   }
 
-  return { compile: (bytes) => WebAssembly.compile(bytes), run: runModule, Pool };
+  return { compile: (bytes) => WebAssembly.compile(bytes), open: openModule, run: runModule, Pool };
 })();

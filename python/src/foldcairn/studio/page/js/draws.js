@@ -37,27 +37,56 @@ export function uniform(seed, purpose, one, other) {
   return (Number(word >> 12n) + 0.5) / 2 ** 52;
 }
 
-/** @type {Map<string, number>} */
-const kept = new Map();
-const KEPT_MOST = 400_000;
-
-/** A standard normal number for a pair of names, kept since it depends on nothing else.
+/** A standard normal number for a pair of names.
  * @param {number} seed @param {number} purpose @param {string} one @param {string} other */
 export function normal(seed, purpose, one, other) {
-  const key = `${seed} ${purpose} ${one}\n${other}`;
-  let found = kept.get(key);
-  if (found === undefined) {
-    found = normalQuantile(uniform(seed, purpose, hashOf(one), hashOf(other)));
-    if (kept.size > KEPT_MOST) kept.clear();
-    kept.set(key, found);
-  }
-  return found;
+  return normalQuantile(uniform(seed, purpose, hashOf(one), hashOf(other)));
 }
 
 /** The same in both directions of a pair.
  * @param {number} seed @param {string} one @param {string} other */
 export function normalOfPair(seed, one, other) {
   return hashOf(one) < hashOf(other) ? normal(seed, BOTH, one, other) : normal(seed, BOTH, other, one);
+}
+
+/** @typedef {{ both: number, own: number, snr: number, bits: number, ratio: number }} Pair the normal numbers of a direction, and its last ratio */
+
+/** What a seed draws for the pairs of a plan. It is kept for the next plan, where most nodes are at the same places. */
+export class PairDraws {
+  /** @param {number} seed */
+  constructor(seed) {
+    this.seed = seed;
+    /** @type {Map<string, Map<string, Pair>>} */
+    this.pairs = new Map();
+  }
+
+  /** @param {string} from @param {string} to @returns {Pair} */
+  of(from, to) {
+    let ours = this.pairs.get(from);
+    if (!ours) this.pairs.set(from, (ours = new Map()));
+    let found = ours.get(to);
+    if (!found) {
+      const both = this.pairs.get(to)?.get(from)?.both ?? normalOfPair(this.seed, from, to);
+      ours.set(to, (found = { both, own: normal(this.seed, ONE_WAY, from, to), snr: NaN, bits: 0, ratio: 0 }));
+    }
+    return found;
+  }
+}
+
+/** @type {Map<number, PairDraws>} those that were asked for last */
+const kept = new Map();
+const SEEDS_MOST = 12, PAIRS_MOST = 64;
+
+/** What a seed draws for pairs.
+ * @param {number} seed */
+export function pairDrawsOf(seed) {
+  let found = kept.get(seed);
+  kept.delete(seed);
+  // Names that are no more would stay for ever.
+  if (!found || found.pairs.size > PAIRS_MOST) found = new PairDraws(seed);
+  kept.set(seed, found);
+  if (kept.size > SEEDS_MOST) kept.delete(/** @type {number} */ (kept.keys().next().value));
+  return found;
 }
 
 /** @type {Map<string, bigint>} */

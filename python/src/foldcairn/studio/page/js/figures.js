@@ -14,7 +14,7 @@ import { ofShare, ofMean, spreadOf, judged, ruleOf, NOT_DECIDED } from "./verdic
 
 // By how much a period is to be longer than the interval that is requested, so that what waits is sent.
 const SPARE = 1.15;
-const ERROR = 0.025, USUAL = 0.99, MOST_LATE = 0.95;
+const ERROR = 0.025, USUAL = 0.99, MOST_LATE = 0.95, CLOSE = 1e-9;
 export const PLANNED = " 0";
 
 /** The share that a stream is wanted to have: that of the strictest requirement that is about it.
@@ -26,9 +26,32 @@ export function wantedOf(plan, stream) {
   return about.length ? Math.max(...about.map((one) => one.share ?? one.ratio)) : USUAL;
 }
 
-/** @param {number[]} sorted @param {number} part */
-function quantile(sorted, part) {
-  return sorted.length ? sorted[Math.min(sorted.length - 1, Math.ceil(part * sorted.length) - 1)] : null;
+/** The latency that a part of all deliveries of some draws had at most, or null without any. The least that so many had is looked for between
+ * two others, since all of them in one order would be millions.
+ * @param {import("./measure.js").Late[]} draws @param {number} part */
+export function latencyOf(draws, part) {
+  const there = draws.filter(({ seconds }) => seconds.length);
+  const wanted = Math.ceil(part * there.reduce((sum, { counts }) => sum + counts[counts.length - 1], 0));
+  const countTo = (/** @type {number} */ most) => there.reduce((sum, { seconds, counts }) => sum + (counts[placeAfter(seconds, most) - 1] ?? 0), 0);
+  let low = -1, high = there.reduce((most, { seconds }) => Math.max(most, seconds[seconds.length - 1]), 0);
+  while (high - low > CLOSE) {
+    const middle = (low + high) / 2;
+    if (countTo(middle) >= wanted) high = middle;
+    else low = middle;
+  }
+  return there.length ? there.reduce((least, { seconds }) => Math.min(least, seconds[placeAfter(seconds, low)] ?? Infinity), Infinity) : null;
+}
+
+/** Where the numbers begin that are above one.
+ * @param {Float64Array} sorted @param {number} one */
+function placeAfter(sorted, one) {
+  let low = 0, high = sorted.length;
+  while (low < high) {
+    const middle = (low + high) >> 1;
+    if (sorted[middle] > one) high = middle;
+    else low = middle + 1;
+  }
+  return low;
 }
 
 /** What draws say of each stream.
@@ -38,12 +61,12 @@ export function streamFigures(found) {
   return plan.stream.map((stream) => {
     const values = /** @type {number[]} */ (draws.map((draw) => draw.streams[stream.name]?.[0]).filter((one) => one !== null && one !== undefined));
     const packets = draws.reduce((sum, draw) => sum + (draw.streams[stream.name]?.[1] ?? 0), 0);
-    const late = Float64Array.from(draws.flatMap((draw) => draw.latencies[stream.name] ?? [])).sort();
+    const late = draws.flatMap((draw) => draw.latencies[stream.name] ?? []);
     const spread = values.length ? spreadOf(values, packets) : null;
     const [low, high] = spread ? ofShare(spread, ERROR, own) : [0, 1];
     return {
-      name: stream.name, share: spread ? spread.mean : null, low, high, median: quantile(/** @type {any} */ (late), 0.5),
-      most: quantile(/** @type {any} */ (late), MOST_LATE), wanted: wantedOf(plan, stream), draws: draws.length, packets,
+      name: stream.name, share: spread ? spread.mean : null, low, high, median: latencyOf(late, 0.5), most: latencyOf(late, MOST_LATE),
+      wanted: wantedOf(plan, stream), draws: draws.length, packets,
     };
   });
 }

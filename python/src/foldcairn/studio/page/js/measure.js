@@ -1,7 +1,7 @@
 // What is measured of one draw of a plan: for the table of streams, for the nodes, and for each requirement, as foldcairn.requirements
 // measures it. It runs in a worker. Tested, not proved.
 import { networkOf, nodesOf } from "./network.js";
-import { cameOf, streamKey } from "./outcome.js";
+import { cameOf, costsOf, countAt, isAnywhere, maskOf, streamKey } from "./outcome.js";
 
 /** @typedef {import("./types.js").Plan} Plan */
 /** @typedef {import("./types.js").Row} Row */
@@ -10,9 +10,10 @@ import { cameOf, streamKey } from "./outcome.js";
 /** @typedef {import("./outcome.js").Came} Came */
 /** @typedef {{ failed: string, seconds: number }} Case what fails, and when; nobody where it is empty */
 /** @typedef {Record<string, [number | null, number]>} Values of each unit its value, or null, and of how many packets it is */
+/** @typedef {{ seconds: Float64Array, counts: Uint32Array }} Late latencies in their order, and how many deliveries had each or less */
 /** @typedef {(words: string[], input: string) => Uint8Array} Run a command of the programs */
 /**
- * @typedef {{ seed: number, streams: Values, latencies: Record<string, number[]>, years: Record<string, number>, joined: Record<string, number>,
+ * @typedef {{ seed: number, streams: Values, latencies: Record<string, Late>, years: Record<string, number>, joined: Record<string, number>,
  *   requirements: Values[] }} Draw
  */
 
@@ -62,16 +63,12 @@ class Drawn {
     this.run = run;
     this.capacities = capacities;
     this.network = networkOf(prepared, seed);
-    this.nodes = new Set([...this.network.ids.values()]);
-    this.came = this.cameIn(this.network, this.wanted(requirements));
+    this.nodes = new Set(this.network.ids.values());
+    this.came = cameOf(this.network, this.run(["outcome", String(seed)], this.network.text), this.plan.plan.profile, this.wanted(requirements));
+    this.hosts = [0, 1, 2, 3].map((rank) => this.network.hosts.get(rank) ?? -1);
+    this.hostMasks = this.hosts.map((host) => maskOf(this.came, host < 0 ? [] : [host]));
     /** @type {Map<number, number> | undefined} */
     this.lives = undefined;
-    /** @type {number[][]} the deliveries of each stream */
-    this.byStream = [];
-    const streamAt = new Int32Array(this.came.put.length);
-    for (const [place, packets] of [...this.came.streams.values()].entries()) for (const packet of packets) streamAt[packet] = place;
-    this.places = new Map([...this.came.streams.keys()].map((key, place) => [key, place]));
-    this.came.of.forEach((packet, place) => (this.byStream[streamAt[packet]] ??= []).push(place));
   }
 
   /** The nodes whose deliveries count.
@@ -80,12 +77,8 @@ class Drawn {
     const found = new Set(this.network.hosts.values());
     const asked = requirements.filter((one) => one.to !== null && one.to !== "hosts").map((one) => one.to);
     for (const stream of this.plan.stream) for (const to of [null, ...asked]) for (const node of this.receivers(stream, to) ?? []) found.add(node);
+    found.delete(-1);
     return found;
-  }
-
-  /** @param {Network} network @param {Set<number>} nodes */
-  cameIn(network, nodes) {
-    return cameOf(network, this.run(["outcome", String(this.seed)], network.text), this.plan.plan.profile, nodes);
   }
 
   /** The receivers of a stream, or null for whichever host serves.
@@ -97,44 +90,41 @@ class Drawn {
     return new Set(names.filter((name) => name !== stream.from && name !== this.case.failed).map((name) => this.network.ids.get(name) ?? -1));
   }
 
-  /** The packets of a stream, and its deliveries at its receivers.
-   * @param {Row} stream @param {Set<number> | null} receivers */
+  /** The packets of a stream that are meant for somebody, each with at how many of its receivers it came.
+   * @param {Row} stream @param {Set<number> | null} receivers @returns {[number, number][]} */
   arrived(stream, receivers) {
-    const { came, network } = this, source = network.ids.get(stream.from) ?? -1;
-    const ours = new Set(came.streams.get(streamKey(source, stream.stream)) ?? []);
-    const host = [0, 1, 2, 3].map((rank) => network.hosts.get(rank) ?? -1);
-    const deliveries = [];
-    for (const place of this.byStream[this.places.get(streamKey(source, stream.stream)) ?? -1] ?? []) {
+    const { came, hosts, hostMasks, network } = this, source = network.ids.get(stream.from) ?? -1, mask = receivers && maskOf(came, receivers);
+    /** @type {[number, number][]} */
+    const found = [];
+    for (const packet of came.streams.get(streamKey(source, stream.stream)) ?? []) {
       // What its source hosts itself is meant for nobody.
-      if (receivers === null && host[came.rank[place]] === source) ours.delete(came.of[place]);
-      else if (receivers ? receivers.has(came.at[place]) : came.at[place] === host[came.rank[place]]) deliveries.push(place);
+      if (!mask && isAnywhere(came, packet) && hosts[came.rank[packet]] === source) continue;
+      found.push([packet, countAt(came, packet, mask ?? hostMasks[came.rank[packet]])]);
     }
-    return { ours, deliveries };
+    return found;
   }
 
-  /** The part of the packets that came in time, or at all without a deadline, and the latencies.
+  /** The part of the packets that came in time, or at all without a deadline, and the latencies, each with how many deliveries had it.
    * @param {Row} stream @param {Set<number> | null} receivers @param {number | null} deadline */
   share(stream, receivers, deadline) {
-    const { came, network } = this, run = network.frames * network.frame;
-    const { ours, deliveries } = this.arrived(stream, receivers);
-    const latest = run - (deadline ?? WAITING_FRAMES * network.frame) + LITTLE;
-    const due = new Set([...ours].filter((packet) => came.put[packet] <= latest && came.put[packet] >= this.case.seconds));
-    const late = deliveries.filter((place) => due.has(came.of[place])).map((place) => came.seconds[place] - came.put[came.of[place]]);
-    const arrived = late.filter((seconds) => deadline === null || seconds <= deadline + LITTLE).length;
-    return { value: due.size ? arrived / (due.size * (receivers ? receivers.size : 1)) : null, packets: due.size, latencies: late };
+    const { came, network } = this, latest = network.frames * network.frame - (deadline ?? WAITING_FRAMES * network.frame) + LITTLE;
+    const due = this.arrived(stream, receivers).filter(([packet]) => came.put[packet] <= latest && came.put[packet] >= this.case.seconds);
+    const late = due.filter(([, count]) => count).map(([packet, count]) => /** @type {[number, number]} */ ([came.seconds[packet] - came.put[packet], count]));
+    const arrived = late.reduce((sum, [seconds, count]) => sum + (deadline === null || seconds <= deadline + LITTLE ? count : 0), 0);
+    return { value: due.length ? arrived / (due.length * (receivers ? receivers.size : 1)) : null, packets: due.length, latencies: late };
   }
 
   /** How long nothing arrived after the failure.
    * @param {Row} stream @param {Set<number> | null} receivers @returns {[number | null, number]} */
   outage(stream, receivers) {
-    const { came, network } = this, failure = this.case.seconds;
-    const { ours, deliveries } = this.arrived(stream, receivers);
-    const puts = [...ours].map((packet) => came.put[packet]).filter((seconds) => seconds >= failure);
+    const { came, network } = this, failure = this.case.seconds, ours = this.arrived(stream, receivers);
+    const puts = ours.map(([packet]) => came.put[packet]).filter((seconds) => seconds >= failure);
     if (!puts.length) return [null, 0];
     const start = Math.max(failure, puts.reduce((least, one) => Math.min(least, one), Infinity)), end = network.frames * network.frame;
-    const after = deliveries.filter((place) => came.seconds[place] >= start);
-    const first = (/** @type {number[]} */ places) => places.reduce((least, place) => Math.min(least, came.seconds[place]), Infinity);
-    const firsts = receivers ? [...receivers].map((node) => first(after.filter((place) => came.at[place] === node))) : [first(after)];
+    const after = ours.filter(([packet, count]) => count && came.seconds[packet] >= start).map(([packet]) => packet);
+    const first = (/** @type {number[]} */ packets) => packets.reduce((least, packet) => Math.min(least, came.seconds[packet]), Infinity);
+    const masks = receivers ? [...receivers].map((node) => maskOf(came, [node])) : [];
+    const firsts = receivers ? masks.map((mask) => first(after.filter((packet) => countAt(came, packet, mask)))) : [first(after)];
     return [Math.max(...firsts.map((one) => (one === Infinity ? end : one))) - start, 0];
   }
 
@@ -143,7 +133,7 @@ class Drawn {
   begun(count) {
     const frames = Math.min(count, this.network.frames);
     const made = networkOf({ ...this.prepared, frames }, this.seed);
-    return { network: made, costs: this.cameIn(made, new Set()).costs };
+    return { network: made, costs: costsOf(this.run(["outcome", String(this.seed)], made.text)) };
   }
 
   /** By when each node was a member, in seconds after it was switched on first.
@@ -216,6 +206,13 @@ class Drawn {
   }
 }
 
+/** @param {[number, number][]} late @returns {Late} */
+function lateOf(late) {
+  late.sort(([one], [other]) => one - other);
+  let sum = 0;
+  return { seconds: Float64Array.from(late, ([seconds]) => seconds), counts: Uint32Array.from(late, ([, count]) => (sum += count)) };
+}
+
 /**
  * What is measured of a seed in a case, for these requirements.
  * @param {Prepared} prepared of the plan in the case
@@ -234,7 +231,7 @@ export function drawnOf(prepared, seed, one, requirements, run, capacities) {
     for (const stream of prepared.plan.stream) {
       const { value, packets, latencies } = drawn.share(stream, drawn.receivers(stream, null), stream.deadline);
       found.streams[stream.name] = [value, packets];
-      found.latencies[stream.name] = latencies;
+      found.latencies[stream.name] = lateOf(latencies);
     }
     drawn.lives = drawn.years();
     for (const [name, id] of drawn.network.ids) {

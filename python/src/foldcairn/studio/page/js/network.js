@@ -232,13 +232,15 @@ export function networkText(plan, seed) {
  * @param {Prepared} made @returns {boolean} */
 export function hasOwnNetworks({ plan, links }) {
   if (plan.plan.vary_ids) return true;
-  /** @type {Map<string, [number, number, number]>} */
+  /** @type {Map<string, Map<string, [number, number, number]>>} */
   const seen = new Map();
   for (let seed = 1; seed <= COMPARED; seed++) {
-    for (const { from, to, pieces } of ratiosOf(links, seed)) {
-      const [least, most, count] = seen.get(`${from}\n${to}`) ?? [1, 0, 0];
-      seen.set(`${from}\n${to}`, [Math.min(least, pieces[0][1]), Math.max(most, pieces[0][1]), count + 1]);
+    for (const { from, to, pieces: [[, ratio]] } of ratiosOf(links, seed)) {
+      const ours = seen.get(from) ?? new Map(), [least, most, count] = ours.get(to) ?? [1, 0, 0];
+      const [low, high] = [Math.min(least, ratio), Math.max(most, ratio)];
+      if (high - low > APART) return true;
+      seen.set(from, ours.set(to, [low, high, count + 1]));
     }
   }
-  return [...seen.values()].some(([least, most, count]) => count < COMPARED || most - least > APART);
+  return [...seen.values()].some((ours) => [...ours.values()].some(([, , count]) => count < COMPARED));
 }

@@ -1,15 +1,17 @@
 // What came of one draw: the packets that were put, and their deliveries, by the output of `outcome`. Tested, not proved.
+import { Deliveries } from "./deliveries.js";
 
 /** @typedef {import("./network.js").Network} Network */
 
 /**
- * Packets, without those that keep a stream alive, and their deliveries; each delivery has the place of its packet.
- * @typedef {{ streams: Map<string, number[]>, put: number[], of: Int32Array, at: Uint8Array, rank: Uint8Array, seconds: Float64Array,
+ * Packets, without those that keep a stream alive. Of each: when it was put, and when the slot ended in which it came, in a round of which rank and
+ * at which nodes. A packet is sent once, so whoever delivers it does so in that slot. `at` has two words of bits a packet, one bit a node by `bits`.
+ * @typedef {{ streams: Map<string, number[]>, put: number[], seconds: Float64Array, rank: Uint8Array, at: Uint32Array, bits: Uint8Array,
  *   costs: Map<number, Cost> }} Came
  */
 /** @typedef {{ transmit: number, on: number, scanned: number }} Cost how long a radio transmitted and was on, in seconds, and searched, in frames */
 
-const TICKS = 64_000_000, ROUND_SECONDS = 1, NEWLINE = 10, BLANK = 32;
+const TICKS = 64_000_000, ROUND_SECONDS = 1, NEWLINE = 10;
 
 /** A stream as one text.
  * @param {number} node @param {number} stream */
@@ -20,6 +22,39 @@ export function streamKey(node, stream) {
 /** @param {number} source @param {number} boot @param {number} stream @param {number} number */
 function codeOf(source, boot, stream, number) {
   return ((source * 256 + boot) * 4 + stream) * 65_536 + number;
+}
+
+/** Some nodes as two words of bits.
+ * @param {Came} came @param {Iterable<number>} nodes @returns {[number, number]} */
+export function maskOf(came, nodes) {
+  /** @type {[number, number]} */
+  const mask = [0, 0];
+  for (const node of nodes) if (node >= 0) mask[came.bits[node] >> 5] |= 1 << (came.bits[node] & 31);
+  return mask;
+}
+
+/** How many of some nodes delivered a packet.
+ * @param {Came} came @param {number} packet @param {[number, number]} mask of the nodes */
+export function countAt(came, packet, mask) {
+  return onesOf(came.at[2 * packet] & mask[0]) + onesOf(came.at[2 * packet + 1] & mask[1]);
+}
+
+/** Whether a packet came at any of the nodes that were asked for.
+ * @param {Came} came @param {number} packet */
+export function isAnywhere(came, packet) {
+  return came.at[2 * packet] !== 0 || came.at[2 * packet + 1] !== 0;
+}
+
+/** @param {number} word of 32 bits */
+function onesOf(word) {
+  const pairs = word - ((word >>> 1) & 0x55555555), fours = (pairs & 0x33333333) + ((pairs >>> 2) & 0x33333333);
+  return Math.imul((fours + (fours >>> 4)) & 0x0f0f0f0f, 0x01010101) >>> 24;
+}
+
+/** What radios cost.
+ * @param {Uint8Array} output @returns {Came["costs"]} */
+export function costsOf(output) {
+  return restOf(output).costs;
 }
 
 /**
@@ -33,38 +68,35 @@ function codeOf(source, boot, stream, number) {
 export function cameOf(network, output, profile, nodes) {
   const { drops, costs } = restOf(output);
   const { streams, put, places } = packetsOf(network, drops);
-  const slotSeconds = profile === 1 ? 0.033 : 0.056;
-  const wanted = new Uint8Array(256);
+  const bits = new Uint8Array(256), wanted = new Uint8Array(256);
+  [...network.ids.values()].forEach((node, place) => (bits[node] = place));
   for (const node of nodes) wanted[node] = 1;
-  const found = {
-    of: /** @type {number[]} */ ([]), at: /** @type {number[]} */ ([]), rank: /** @type {number[]} */ ([]), seconds: /** @type {number[]} */ ([]),
-  };
-  const numbers = new Float64Array(8);
-  let at = 0;
-  // deliver FRAME RANK SLOT NODE SOURCE BOOT STREAM NUMBER PAYLOAD
-  while (output[at] === 100 && output[at + 1] === 101) {
-    at += 8;
-    for (let place = 0; place < 8; place++) {
-      let number = 0;
-      for (; output[at] !== BLANK; at++) number = number * 10 + output[at] - 48;
-      numbers[place] = number;
-      at += 1;
-      if (place === 3 && !wanted[number]) break;
+  /** @type {Came} */
+  const came = { streams, put, seconds: new Float64Array(put.length), rank: new Uint8Array(put.length), at: new Uint32Array(2 * put.length), bits, costs };
+  const slotSeconds = profile === 1 ? 0.033 : 0.056, lines = new Deliveries(output), numbers = new Float64Array(8);
+  let place = -1;
+  while (lines.isMore) {
+    let node = lines.again();
+    if (node < 0) {
+      lines.line(numbers);
+      place = placeOf(places, numbers);
+      node = numbers[3];
+      if (place >= 0) {
+        came.seconds[place] = numbers[0] * network.frame + ROUND_SECONDS + (numbers[2] + 1) * slotSeconds + network.late;
+        came.rank[place] = numbers[1];
+      }
     }
-    at = output.indexOf(NEWLINE, at) + 1;
-    if (!wanted[numbers[3]]) continue;
-    const place = places.get(codeOf(numbers[4], numbers[5], numbers[6], numbers[7]));
-    if (place === undefined) throw new Error("the output has a packet that the plan has not");
-    if (place < 0) continue;
-    found.of.push(place);
-    found.at.push(numbers[3]);
-    found.rank.push(numbers[1]);
-    found.seconds.push(numbers[0] * network.frame + ROUND_SECONDS + (numbers[2] + 1) * slotSeconds + network.late);
+    if (place >= 0 && wanted[node]) came.at[2 * place + (bits[node] >> 5)] |= 1 << (bits[node] & 31);
   }
-  return {
-    streams, put, of: Int32Array.from(found.of), at: Uint8Array.from(found.at), rank: Uint8Array.from(found.rank),
-    seconds: Float64Array.from(found.seconds), costs,
-  };
+  return came;
+}
+
+/** The place of the packet of a line, or -1 where it does not count.
+ * @param {Map<number, number>} places @param {Float64Array} numbers of the line */
+function placeOf(places, numbers) {
+  const found = places.get(codeOf(numbers[4], numbers[5], numbers[6], numbers[7]));
+  if (found === undefined) throw new Error("the output has a packet that the plan has not");
+  return found;
 }
 
 /** The lines of drops and costs, which come last.

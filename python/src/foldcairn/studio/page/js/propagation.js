@@ -1,6 +1,6 @@
 // The ratios of a plan's links: their means, and what each seed draws, as foldcairn.propagation has them. Tested, not proved.
 import { packetBits, expectedRatio, ratioOfSnr, snrOfRatio, tabledRatio } from "./curve.js";
-import { MEASURED, ONE_WAY, hashOf, normal, normalOfPair, uniform } from "./draws.js";
+import { MEASURED, hashOf, pairDrawsOf, uniform } from "./draws.js";
 import { HIGH, LOW, decades, fitExponent, fitNoise } from "./fit.js";
 import { PlanError, didYouMean } from "./plan_words.js";
 import { countedQuantile } from "./posterior.js";
@@ -226,6 +226,13 @@ function fittedOf(site, survey, unheard, noise, bits) {
   );
 }
 
+/** @param {import("./draws.js").Pair} pair @param {Modelled} link @param {number} bits */
+function drawnRatio(pair, { snr, shared, own }, bits) {
+  const drawn = snr + pair.both * shared + pair.own * own;
+  if (drawn !== pair.snr || bits !== pair.bits) Object.assign(pair, { snr: drawn, bits, ratio: ratioOfSnr(drawn, bits) });
+  return pair.ratio;
+}
+
 /**
  * The ratios of the links that have at least the least one: what a seed draws, or without one their means.
  * @param {Links} links
@@ -236,9 +243,10 @@ function fittedOf(site, survey, unheard, noise, bits) {
 export function ratiosOf(links, seed, isRough = false) {
   /** @type {Ratios[]} */
   const found = [];
-  for (const { from, to, snr, shared, own } of links.modelled) {
-    const ratio = seed === null ? (isRough ? tabledRatio : expectedRatio)(snr, Math.hypot(shared, own), links.bits)
-      : ratioOfSnr(snr + (shared ? normalOfPair(seed, from, to) * shared : 0) + (own ? normal(seed, ONE_WAY, from, to) * own : 0), links.bits);
+  const drawn = seed === null ? null : pairDrawsOf(seed);
+  for (const one of links.modelled) {
+    const { from, to, snr, shared, own } = one;
+    const ratio = drawn ? drawnRatio(drawn.of(from, to), one, links.bits) : (isRough ? tabledRatio : expectedRatio)(snr, Math.hypot(shared, own), links.bits);
     if (ratio >= links.least) found.push({ from, to, pieces: [[0, ratio]] });
   }
   for (const { from, to, samples } of links.measured) {

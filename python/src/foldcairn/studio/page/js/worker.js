@@ -12,11 +12,14 @@ import { PlanError } from "./plan_words.js";
  *   failed?: string, seconds?: number, requirements?: number[], command?: string }} Asked
  */
 
-/** @type {{ run: (module: any, words: string[], input: string) => { status: number, output: Uint8Array } }} */
+/** @typedef {{ call: (words: string[], input: string) => { status: number, output: Uint8Array }, memory: () => number }} Opened */
+/** @type {{ open: (module: any) => Opened }} */
 const programs = /** @type {any} */ (globalThis).Foldcairn;
 
 // Nodes times frames of the floods that are shown are at most that, so that the text of their log has a few megabytes.
 const LOG_MOST = 16_384;
+// A program that is kept for the next call has at most that many bytes.
+const KEPT_MOST = 268_435_456;
 
 /** What answers the messages of a page. */
 export class Workman {
@@ -25,11 +28,17 @@ export class Workman {
     this.given = { generation: 0 };
     /** @type {Map<string, ReturnType<typeof prepared>>} */
     this.prepared = new Map();
+    /** @type {Opened | null} */
+    this.opened = null;
   }
 
-  /** @param {string[]} words @param {string} input */
+  /** What a command writes; the bytes are there until the next call. The memory of the program is kept for that: a new one costs a third more.
+   * @param {string[]} words @param {string} input */
   run(words, input) {
-    const { status, output } = programs.run(this.given.module, words, input);
+    const opened = this.opened ?? programs.open(this.given.module);
+    this.opened = null;
+    const { status, output } = opened.call(words, input);
+    if (status !== 5 && opened.memory() <= KEPT_MOST) this.opened = opened;
     if (status !== 0) {
       const told = new TextDecoder().decode(output.subarray(0, 200)).trim();
       throw new PlanError("", status === 5 ? "the browser has too little memory for this plan" : `the program refuses the network: ${told}`);
