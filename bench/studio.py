@@ -91,8 +91,8 @@ def one_run(browser, address: str, found: dict[str, list[float]]) -> None:
     )
     # Frames in which the map was drawn, by how often its ground is.
     browser.evaluate(
-        "(() => { globalThis.drawn = []; const old = foldcairnPage.map.ground; foldcairnPage.map.ground = function (shown) {"
-        " drawn.push(performance.now()); return old.call(this, shown); }; })()"
+        "(() => { globalThis.drawn = []; const old = foldcairnPage.map.ground.draw; foldcairnPage.map.ground.draw = function (map, shown) {"
+        " drawn.push(performance.now()); return old.call(this, map, shown); }; })()"
     )
     box = f"document.querySelector('[data-name=\"{MOVED}\"] .symbol').getBoundingClientRect()"
     x, y = browser.evaluate(f"(box => [box.x + box.width / 2, box.y + box.height / 2])({box})")

@@ -144,7 +144,7 @@ def test_plans_side_by_side(page: Browser) -> None:
     page.wait("document.body.dataset.ready === 'all'")
     click(page, "Keep this plan")
     page.evaluate("document.getElementById('map').focus(), foldcairnPage.store.set({ selected: ['Press-1'] })")
-    page.evaluate("foldcairnPage.drop(20, -5)")
+    page.evaluate("foldcairnPage.drag.drop(20, -5)")
     page.wait("document.body.dataset.ready === 'all'")
     page.evaluate("foldcairnPage.showPanel()")
     rows = page.evaluate("[...document.querySelectorAll('#panel tbody tr')].map((row) => row.textContent)")

@@ -4,18 +4,20 @@
 /** @typedef {import("./types.js").Plan} Plan */
 /** @typedef {import("./measure.js").Draw} Draw */
 /** @typedef {{ key: string, failed: string, seconds: number, requirements: number[] }} Case */
-/** @typedef {{ generation: number, plan: Plan, error: string, draws: Map<string, Draw[]>, cases: Map<string, number[]>, done: number, wanted: number,
- *   own: boolean, isOwnKnown: boolean }} Found by the keys of cases */
-/** @typedef {{ worker: Worker, isBusy: boolean, generation: number, since: number }} Hand */
+/**
+ * What was found of a plan: the draws by the keys of cases, whether each has a network of its own, and bounds; null is not known yet.
+ * @typedef {{ generation: number, plan: Plan, error: string, draws: Map<string, Draw[]>, cases: Map<string, number[]>, done: number, wanted: number,
+ *   own: boolean, isOwnKnown: boolean, bounds: import("./bounds.js").Told | null }} Found
+ */
+/** @typedef {{ one: Case, seed: number, command?: string }} Job a draw, or a command */
+/** @typedef {{ worker: Worker, job: Job | null, generation: number, plan: Plan | null, since: number }} Hand the plan is the one that it has */
 
 // How many draws there are at once, and how many are added as long as nothing moves.
 export const FEW = 8;
-// A worker that is longer than this at a draw of an older plan is stopped, in milliseconds.
-const PATIENCE = 400;
+// A worker that is longer than this at a draw of an older plan is stopped, in milliseconds. A new one is slow at first.
+const PATIENCE = 1_000;
 // So many failures are gone through at most; more take too long for a page.
 const CASES_MOST = 64;
-// In place of a seed: whether each draw has a network of its own, which is asked for after the first draws.
-const OWN = -1;
 // A failure has fewer draws than the plan itself.
 const FAILURE_DRAWS = 32;
 
@@ -47,6 +49,37 @@ export function casesFor(plan, requirement) {
   return [{ failed: when.replace(/ fails$/, ""), seconds }];
 }
 
+/** Whether the first draws are there, or there is none.
+ * @param {Found} found */
+export function isReady(found) {
+  return found.error !== "" || found.done >= Math.min(FEW, found.wanted);
+}
+
+/** What is found of a plan before its first draw.
+ * @param {Plan} plan @param {string} error why there will be none @returns {Found} */
+export function nothingOf(plan, error) {
+  return { generation: 0, plan, error, draws: new Map(), cases: new Map(), done: 0, wanted: 0, own: true, isOwnKnown: true, bounds: null };
+}
+
+/** What is to be done for a plan, in its order: a few draws, what is asked once, a few draws of each failure, and more draws.
+ * @param {Case[]} cases @param {number} most draws @param {boolean} isMoving @returns {Job[]} */
+function jobsOf(cases, most, isMoving) {
+  const draws = (/** @type {Case} */ one, /** @type {number} */ from, /** @type {number} */ to) => (
+    Array.from({ length: Math.max(0, to - from + 1) }, (_, place) => ({ one, seed: from + place }))
+  );
+  const few = Math.min(FEW, most), [planned, ...failures] = cases, first = planned ? draws(planned, 1, few) : [];
+  if (isMoving || !planned) return first;
+  const once = ["own", "bounds"].map((command) => ({ one: planned, seed: 1, command }));
+  const more = cases.flatMap((one, place) => draws(one, few + 1, place ? Math.min(most, FAILURE_DRAWS) : most));
+  return [...first, ...once, ...failures.flatMap((one) => draws(one, 1, few)), ...more];
+}
+
+/** The tables of a plan that are others than in the one that a worker has: a table that stays need not be sent.
+ * @param {Plan} plan @param {Plan | null} old */
+function changesOf(plan, old) {
+  return Object.fromEntries(Object.entries(plan).filter(([name, rows]) => !old || old[/** @type {"node"} */ (name)] !== rows));
+}
+
 export class Engine {
   /**
    * @param {string} program the text of the page's script, which is also that of its workers
@@ -61,12 +94,10 @@ export class Engine {
     this.generation = 0;
     /** @type {Found | null} */
     this.found = null;
-    /** @type {{ one: Case, seed: number }[]} */
+    /** @type {Job[]} */
     this.waiting = [];
     /** @type {Hand[]} */
     this.hands = [];
-    /** @type {Map<number, (answer: any) => void>} */
-    this.asked = new Map();
     this.isMoving = false;
     while (this.hands.length < size) this.hands.push(this.hired());
   }
@@ -74,7 +105,8 @@ export class Engine {
   /** @returns {Hand} */
   hired() {
     const worker = new Worker(this.url);
-    const hand = { worker, isBusy: false, generation: 0, since: 0 };
+    /** @type {Hand} */
+    const hand = { worker, job: null, generation: 0, plan: null, since: 0 };
     worker.postMessage({ ...this.given, generation: 0 });
     worker.onmessage = ({ data }) => this.heard(hand, data);
     worker.onerror = (event) => this.heard(hand, { generation: hand.generation, error: event.message || "a worker failed" });
@@ -83,84 +115,94 @@ export class Engine {
 
   /** Whether the first draws of the plan are there, or it has none. */
   get isReady() {
-    return !this.found || this.found.error !== "" || this.found.done >= Math.min(FEW, this.found.wanted);
+    return !this.found || isReady(this.found);
   }
 
-  /** Takes a plan in place of the one before. With `isMoving` a few draws are made only.
+  /** Takes a plan in place of the one before. With `isMoving` a few draws are made only; the same plan again keeps its draws.
    * @param {Plan} plan @param {boolean} [isMoving] @param {string} [error] why there is nothing to draw */
   take(plan, isMoving = false, error = "") {
-    this.generation += 1;
+    const isAgain = this.found !== null && this.found.plan === plan && !this.found.error && !error;
+    if (!isAgain) this.generation += 1;
     this.isMoving = isMoving;
-    const cases = error ? [] : casesOf(plan), most = Math.max(1, plan.plan.seeds);
-    this.waiting = [];
-    const add = (/** @type {Case} */ one, /** @type {number} */ from, /** @type {number} */ to) => {
-      for (let seed = from; seed <= to; seed++) this.waiting.push({ one, seed });
-    };
-    for (const [place, one] of isMoving ? cases.slice(0, 1).entries() : cases.entries()) add(one, 1, Math.min(FEW, place ? Math.min(most, FEW) : most));
-    const own = this.found?.own ?? true, isOwnKnown = isMoving || !cases.length;
-    if (!isOwnKnown) this.waiting.push({ one: cases[0], seed: OWN });
-    if (!isMoving) for (const [place, one] of cases.entries()) add(one, Math.min(FEW, most) + 1, place ? Math.min(most, FAILURE_DRAWS) : most);
+    const cases = error ? [] : casesOf(plan), jobs = jobsOf(cases, Math.max(1, plan.plan.seeds), isMoving);
+    const before = isAgain ? this.found : null;
     this.found = {
-      generation: this.generation, plan, error, draws: new Map(), cases: new Map(cases.map((one) => [one.key, one.requirements])), done: 0,
-      wanted: this.waiting.length - (isOwnKnown ? 0 : 1), own, isOwnKnown,
+      ...nothingOf(plan, error), ...before, generation: this.generation, cases: new Map(cases.map((one) => [one.key, one.requirements])),
+      wanted: jobs.filter((job) => !job.command).length, own: this.found?.own ?? true, isOwnKnown: isMoving || !cases.length,
     };
+    this.waiting = before ? jobs.filter((job) => !this.isBegun(before, job)) : jobs;
+    this.stopOld();
+    this.told(this.found);
+    this.next();
+  }
+
+  /** Whether a draw of the plan that is drawn is there, or under way.
+   * @param {Found} found @param {Job} wanted */
+  isBegun({ draws, generation }, { one, seed, command }) {
+    if (command) return false;
+    const isSame = (/** @type {Hand} */ { job }) => job !== null && !job.command && job.one.key === one.key && job.seed === seed;
+    return (draws.get(one.key) ?? []).some((draw) => draw.seed === seed) || this.hands.some((hand) => hand.generation === generation && isSame(hand));
+  }
+
+  /** Stops workers that are long at an older plan. */
+  stopOld() {
     for (const [place, hand] of this.hands.entries()) {
-      if (!hand.isBusy || performance.now() - hand.since < PATIENCE) continue;
+      if (!hand.job || hand.generation === this.generation || performance.now() - hand.since < PATIENCE) continue;
       hand.worker.terminate();
       this.hands[place] = this.hired();
     }
-    this.told(this.found);
-    this.next();
   }
 
   next() {
     // While something moves, a processor is left to the page.
     const most = this.isMoving ? Math.max(1, this.hands.length - 1) : this.hands.length;
     for (const hand of this.hands) {
-      if (this.hands.filter((one) => one.isBusy).length >= most) return;
-      const job = hand.isBusy ? undefined : this.waiting.shift();
-      if (!job || !this.found) continue;
-      if (job.seed === OWN) this.send(hand, { command: "own" });
-      else this.send(hand, { seed: job.seed, failed: job.one.failed, seconds: job.one.seconds, requirements: job.one.requirements });
+      if (!this.waiting.length || this.hands.filter((one) => one.job).length >= most) return;
+      if (!hand.job) this.send(hand, this.taken(this.hands.indexOf(hand)));
     }
   }
 
-  /** @param {Hand} hand @param {object} job */
+  /** The next job of a worker: of the first draws those of its own seeds before others, since it keeps what they draw for places.
+   * @param {number} place of the worker @returns {Job} */
+  taken(place) {
+    const first = this.waiting.slice(0, FEW), { length } = this.hands;
+    const found = first.findIndex((job) => !job.command && job.seed <= FEW && job.seed % length === place && job.one.key === first[0].one.key);
+    return this.waiting.splice(Math.max(0, found), 1)[0];
+  }
+
+  /** @param {Hand} hand @param {Job} job */
   send(hand, job) {
-    if (hand.generation !== this.generation) hand.worker.postMessage({ plan: this.found?.plan, generation: this.generation });
-    hand.generation = this.generation;
-    hand.isBusy = true;
-    hand.since = performance.now();
-    hand.worker.postMessage({ ...job, generation: this.generation });
+    const plan = /** @type {Found} */ (this.found).plan;
+    if (hand.generation !== this.generation) hand.worker.postMessage({ plan: changesOf(plan, hand.plan), generation: this.generation });
+    Object.assign(hand, { generation: this.generation, plan, job, since: performance.now() });
+    const { one: { failed, seconds, requirements }, seed, command } = job;
+    hand.worker.postMessage({ seed, failed, seconds, requirements, command, generation: this.generation });
   }
 
   /** @param {Hand} hand @param {any} answer */
   heard(hand, answer) {
-    hand.isBusy = false;
-    const { found } = this;
-    if (answer.draw || answer.error || answer.own !== undefined) {
-      if (found && answer.generation === found.generation) this.add(found, answer);
-    }
+    hand.job = null;
+    if (this.found && answer.generation === this.found.generation) this.add(this.found, answer);
     this.next();
   }
 
   /** @param {Found} found @param {any} answer */
   add(found, answer) {
-    if (answer.error) {
-      this.waiting = [];
-      found.error = answer.error;
-    } else if (answer.own !== undefined) {
-      [found.own, found.isOwnKnown] = [answer.own, true];
-    } else {
+    if (answer.draw) {
       const there = found.draws.get(answer.case) ?? [];
       found.draws.set(answer.case, [...there, answer.draw].sort((one, other) => one.seed - other.seed));
       found.done += 1;
-    }
+    } else if (answer.own !== undefined) [found.own, found.isOwnKnown] = [answer.own, true];
+    else if (answer.told !== undefined) found.bounds = answer.told;
+    else if (answer.error && !answer.isCommand) {
+      this.waiting = [];
+      found.error = answer.error;
+    } else return;
     this.told(found);
   }
 
-  /** The network, the log or the bounds of one seed of the plan as it is.
-   * @param {"network" | "log" | "bounds"} command @param {number} seed @returns {Promise<any>} */
+  /** The network or the log of one seed of the plan as it is, by a worker of its own: a log takes long.
+   * @param {"network" | "log"} command @param {number} seed @returns {Promise<any>} */
   ask(command, seed) {
     return new Promise((resolve, reject) => {
       const worker = new Worker(this.url);

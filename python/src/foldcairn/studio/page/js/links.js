@@ -15,26 +15,45 @@ export class MeanLinks {
     this.links = [];
     /** @type {Pair[]} */
     this.pairs = [];
+    // Another one where other nodes are moved than before, or more is otherwise than the places of nodes.
+    this.version = 0;
+    this.moved = "";
   }
 
   /** Takes a plan; its links are none where it does not say them.
    * @param {Plan} plan */
   take(plan) {
     if (plan === this.plan) return;
+    const moved = this.movedIn(plan);
     try {
-      const names = nodesOf(plan).map((node) => node.name), bytes = longestPacket(plan), moved = this.movedIn(plan);
-      const found = ratiosOf(linksOf(plan, names, bytes, moved), null, true);
-      const isOld = (/** @type {Ratios} */ link) => moved !== null && !moved.has(link.from) && !moved.has(link.to);
-      this.links = moved ? [...this.links.filter(isOld), ...found.filter((link) => !isOld(link))] : found;
+      if (moved) this.move(plan, moved);
+      else this.renew(linksIn(plan, null), plan);
     } catch (error) {
       if (!(error instanceof PlanError)) throw error;
-      this.links = [];
-      this.plan = null;
-      this.pairs = [];
-      return;
+      this.renew([], null);
     }
+  }
+
+  /** @param {Ratios[]} links @param {Plan | null} plan */
+  renew(links, plan) {
+    this.version += 1;
     this.plan = plan;
-    this.pairs = pairsOf(this.links);
+    this.links = links;
+    this.pairs = pairsOf(links);
+  }
+
+  /** @param {Plan} plan @param {Set<string>} moved */
+  move(plan, moved) {
+    const { from, unknown } = plan.losses, names = [...moved].join("\n");
+    this.plan = plan;
+    if (names !== this.moved) this.version += 1;
+    this.moved = names;
+    // Of what was measured nothing depends on places.
+    if (!moved.size || ((from === "survey" || from === "none") && unknown !== "positions")) return;
+    const isOld = (/** @type {{ from: string, to: string }} */ link) => !moved.has(link.from) && !moved.has(link.to);
+    const found = linksIn(plan, moved).filter((link) => !isOld(link));
+    this.links = [...this.links.filter(isOld), ...found];
+    this.pairs = [...this.pairs.filter(isOld), ...pairsOf(found)];
   }
 
   /** The nodes that are elsewhere than in the plan before, if nothing else is otherwise; else null.
@@ -52,6 +71,12 @@ export class MeanLinks {
     }
     return moved;
   }
+}
+
+/** The links of a plan by their mean ratios, or of some nodes.
+ * @param {Plan} plan @param {Set<string> | null} only */
+function linksIn(plan, only) {
+  return ratiosOf(linksOf(plan, nodesOf(plan).map((node) => node.name), longestPacket(plan), only), null, true);
 }
 
 /** @param {Ratios[]} links @returns {Pair[]} */

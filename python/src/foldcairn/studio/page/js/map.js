@@ -1,5 +1,6 @@
-// The map: the floor plan, walls, links by their ratio, and nodes by what they are. `map_input` has mouse and keyboard. Tested, not proved.
-import { dressed, h, percent, s } from "./dom.js";
+// The map: nodes by what they are, over the ground of `map_ground`. `map_input` has mouse and keyboard. Tested, not proved.
+import { dressed, percent, s } from "./dom.js";
+import { Ground } from "./map_ground.js";
 import { placedLabels } from "./map_labels.js";
 
 /** @typedef {import("./types.js").Plan} Plan */
@@ -7,12 +8,11 @@ import { placedLabels } from "./map_labels.js";
 /** @typedef {{ share: number | null, wanted: number }} Grade what part of a node's packets comes, the least of its streams */
 /**
  * @typedef {{ plan: Plan, pairs: import("./links.js").Pair[], grades: Map<string, Grade>, selected: string[], floor: number, threshold: number,
- *   picture: HTMLImageElement | null }} Shown
+ *   picture: HTMLImageElement | null, moving: Set<string>, version: number }} Shown `moving` are nodes that are dragged, and `version` is another one
+ *   where links between others are
  */
 
 const LETTER = 7.1, MARGIN = 46, TOP = 60;
-// More links than these have no dashes.
-const DASHED_MOST = 150;
 const SCALES = [0.1, 0.2, 0.5, 1, 2, 5, 10, 20, 50, 100, 200, 500, 1000];
 
 /** What a node is: host, backup, candidate, mains or battery.
@@ -37,10 +37,15 @@ function symbol(kind) {
   return s("circle", { class: "symbol", r: kind === "mains" ? 8 : 7.5 });
 }
 
+/** @param {HTMLElement} place @returns {[number, number]} in pixels */
+function sizeOf(place) {
+  return [place.clientWidth || 600, place.clientHeight || 400];
+}
+
 export class MapView {
   /** @param {HTMLElement} place */
   constructor(place) {
-    this.canvas = /** @type {HTMLCanvasElement} */ (h("canvas", { "aria-hidden": "true" }));
+    this.ground = new Ground(place);
     this.nodes = s("g");
     this.over = s("g", { class: "flood" });
     const arrow = s(
@@ -60,8 +65,9 @@ export class MapView {
       },
       arrow, this.band, this.over, this.nodes, this.scale,
     );
-    place.append(this.canvas, this.svg);
+    place.append(this.svg);
     this.place = place;
+    this.size = sizeOf(place);
     this.centre = [0, 0];
     this.zoom = 10;
     this.isFitted = false;
@@ -74,14 +80,10 @@ export class MapView {
     /** @type {{ senders: string[], heard: string[][], lost: string[][] } | null} what a step of a flood does */
     this.flood = null;
     new ResizeObserver(() => {
+      this.size = sizeOf(place);
       if (!this.isFitted && this.shown) this.fit();
       this.draw();
     }).observe(place);
-  }
-
-  /** @returns {[number, number]} in pixels */
-  get size() {
-    return [this.place.clientWidth || 600, this.place.clientHeight || 400];
   }
 
   /** Metres in pixels of the map.
@@ -140,65 +142,17 @@ export class MapView {
 
   draw() {
     if (!this.shown) return;
-    this.ground(this.shown);
+    this.ground.draw(this, this.shown);
     this.place.dataset.nodes = String(this.shown.plan.node.length);
     this.drawNodes(this.shown);
     this.drawFlood(this.shown);
     this.drawScale();
   }
 
-  /** Picture, walls and links, on the canvas.
-   * @param {Shown} shown */
-  ground(shown) {
-    const [width, height] = this.size, ratio = window.devicePixelRatio || 1, { canvas } = this;
-    if (canvas.width !== Math.round(width * ratio) || canvas.height !== Math.round(height * ratio)) {
-      [canvas.width, canvas.height] = [Math.round(width * ratio), Math.round(height * ratio)];
-    }
-    const pen = /** @type {CanvasRenderingContext2D} */ (canvas.getContext("2d")), style = getComputedStyle(this.place);
-    pen.setTransform(ratio, 0, 0, ratio, 0, 0);
-    pen.clearRect(0, 0, width, height);
-    const box = shown.plan.floor.extent;
-    if (box) {
-      const [left, top] = this.toPixels(box[0], box[3]), [right, bottom] = this.toPixels(box[2], box[1]);
-      if (shown.picture) pen.drawImage(shown.picture, left, top, right - left, bottom - top);
-      pen.strokeStyle = style.getPropertyValue("--line");
-      pen.lineWidth = 1;
-      pen.strokeRect(left, top, right - left, bottom - top);
-    }
-    this.drawLinks(pen, shown, style.getPropertyValue("--link"));
-    pen.globalAlpha = 1;
-    pen.strokeStyle = style.getPropertyValue("--wall");
-    pen.lineWidth = 4;
-    for (const wall of shown.plan.losses.walls) {
-      if (wall[5] !== undefined && wall[5] !== shown.floor) continue;
-      pen.beginPath();
-      pen.moveTo(...this.toPixels(wall[0], wall[1]));
-      pen.lineTo(...this.toPixels(wall[2], wall[3]));
-      pen.stroke();
-    }
-  }
-
-  /** Both directions of a pair are one line, by the worse. Lines are stroked one by one: a path of hundreds takes many times as long.
-   * @param {CanvasRenderingContext2D} pen @param {Shown} shown @param {string} colour */
-  drawLinks(pen, shown, colour) {
-    const places = new Map(
-      shown.plan.node.filter((node) => node.floor === shown.floor && node.x !== null).map((node) => [node.name, this.toPixels(node.x, node.y)])
-    );
-    const chosen = new Set(shown.selected), pairs = shown.pairs.filter((pair) => pair.most >= shown.threshold && places.has(pair.from) && places.has(pair.to));
-    // Many links are pale, so that nodes and names stand out, and without dashes, which take long.
-    const pale = Math.min(1, 14 / Math.sqrt(1 + pairs.length)), isDashed = pairs.length <= DASHED_MOST;
-    pen.strokeStyle = colour;
-    for (const { from, to, least } of pairs) {
-      const one = places.get(from) ?? [0, 0], other = places.get(to) ?? [0, 0], isChosen = chosen.has(from) || chosen.has(to);
-      pen.globalAlpha = Math.max(0.15, least) * (isChosen ? 1 : 0.5 * pale);
-      pen.lineWidth = isDashed || isChosen ? (isChosen ? 1.2 : 0.6) + 1.6 * least : 1;
-      if (isDashed) pen.setLineDash(least < 0.5 ? [3, 5] : least < 0.9 ? [9, 4] : []);
-      pen.beginPath();
-      pen.moveTo(one[0], one[1]);
-      pen.lineTo(other[0], other[1]);
-      pen.stroke();
-    }
-    pen.setLineDash([]);
+  /** Where the nodes of the floor are, in pixels.
+   * @param {Shown} shown @returns {Map<string, [number, number]>} */
+  placesOf(shown) {
+    return new Map(shown.plan.node.filter((node) => node.floor === shown.floor && node.x !== null).map((node) => [node.name, this.toPixels(node.x, node.y)]));
   }
 
   /** @param {Shown} shown */
@@ -252,9 +206,7 @@ export class MapView {
   /** The step of a flood that is looked at: what is received, and what is lost.
    * @param {Shown} shown */
   drawFlood(shown) {
-    const places = new Map(
-      shown.plan.node.filter((node) => node.floor === shown.floor && node.x !== null).map((node) => [node.name, this.toPixels(node.x, node.y)])
-    );
+    const { flood } = this, places = flood ? this.placesOf(shown) : new Map();
     const line = (/** @type {string} */ kind) => (/** @type {string[]} */ [from, to]) => {
       const one = places.get(from), other = places.get(to);
       if (!one || !other) return null;
@@ -267,7 +219,6 @@ export class MapView {
         },
       );
     };
-    const { flood } = this;
     this.svg.classList.toggle("playing", Boolean(flood));
     const drawn = flood ? [...flood.lost.map(line("lost")), ...flood.heard.map(line("heard")), ...flood.senders.map((name) => {
       const place = places.get(name);

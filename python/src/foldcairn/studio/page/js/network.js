@@ -55,8 +55,8 @@ export function longestPacket(plan) {
 }
 
 /** What no seed changes of the networks of a plan.
- * @param {Plan} plan */
-export function prepared(plan) {
+ * @param {Plan} plan @param {import("./propagation.js").Links} [known] its links, where they are known */
+export function prepared(plan, known) {
   const frame = frameSeconds(plan), frames = frameOf(plan.plan.hours * 3600, frame), nodes = nodesOf(plan);
   if (!(frames >= 1 && frames <= FRAMES_MOST)) {
     throw new PlanError(
@@ -65,7 +65,7 @@ export function prepared(plan) {
   }
   if (nodes.length < 2 || nodes.length > NODES_MOST) throw new PlanError("", `the plan has ${nodes.length} nodes, and a network has from 2 to ${NODES_MOST}`);
   if (!plan.host.length) throw new PlanError("", "no node is a host: make one the host of rank 0");
-  const links = linksOf(plan, nodes.map((node) => node.name), longestPacket(plan));
+  const links = known ?? linksOf(plan, nodes.map((node) => node.name), longestPacket(plan));
   return { plan, frame, frames, nodes, links };
 }
 

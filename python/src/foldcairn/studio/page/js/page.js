@@ -1,8 +1,9 @@
 // The page: it brings together state, map, engine and panels. Tested, not proved.
 import { progressText } from "./answers.js";
 import { byId, button, refill } from "./dom.js";
-import { moved, withNode, without } from "./edits.js";
-import { Engine, FEW } from "./engine.js";
+import { Drag } from "./drag.js";
+import { withNode, without } from "./edits.js";
+import { Engine, FEW, isReady, nothingOf } from "./engine.js";
 import { gradesOf } from "./figures.js";
 import { planOfFiles } from "./files.js";
 import { FloodView } from "./flood.js";
@@ -31,15 +32,16 @@ export class Page {
     this.engine = engine;
     this.pictures = { ...given.pictures };
     this.picture = /** @type {HTMLImageElement | null} */ (null);
-    /** @type {Found | null} */
+    /** @type {Found | null} what is being drawn */
     this.found = null;
+    /** @type {Found | null} what is shown: while nodes are dragged that of the place before, until the first draws of the next are there */
+    this.seen = null;
+    this.drag = new Drag(this);
+    this.isFollowing = false;
+    /** @type {{ found: Found | null, done: number, grades: Map<string, import("./map.js").Grade> }} what the map has of the draws */
+    this.graded = { found: null, done: 0, grades: new Map() };
     /** @type {import("./compare.js").Kept[]} */
     this.kept = [];
-    /** @type {import("./bounds.js").Told | null} */
-    this.bounds = null;
-    /** @type {Found | null} */
-    this.asked = null;
-    this.dragged = /** @type {Plan | null} */ (null);
     this.nodes = /** @type {HTMLElement | null} */ (null);
     this.isDue = false;
     this.links = new MeanLinks();
@@ -49,8 +51,8 @@ export class Page {
     new MapInput(this.map, {
       selected: () => this.store.state.selected,
       select: (selected) => this.select(selected),
-      drag: (dx, dy) => this.drag(dx, dy),
-      drop: (dx, dy) => this.drop(dx, dy),
+      drag: (dx, dy) => this.drag.move(dx, dy),
+      drop: (dx, dy) => this.drag.drop(dx, dy),
       add: (x, y) => this.add(x, y),
       remove: () => this.remove(),
       pick: (name) => this.store.set({ selected: [name], tab: this.store.state.tab === "answers" ? "plan" : this.store.state.tab }),
@@ -115,47 +117,41 @@ export class Page {
     if (this.engine) this.engine.take(plan, isMoving, error);
     else {
       const why = "This browser has no WebAssembly, so nothing can be drawn here. Plans can be changed and saved.";
-      this.told({ generation: 0, plan, error: why, draws: new Map(), cases: new Map(), done: 0, wanted: 0, own: true, isOwnKnown: true });
+      this.told(nothingOf(plan, why));
     }
   }
 
   /** What the engine found.
    * @param {Found} found */
   told(found) {
-    if (found !== this.found) this.bounds = null;
     this.found = found;
-    this.ask(found);
+    this.isFollowing = this.drag.plan !== null || (this.isFollowing && !isReady(found));
+    if (!this.isFollowing || isReady(found)) this.seen = found;
+    document.body.dataset.older = String(this.seen !== this.found);
+    if (this.seen !== found) return;
+    this.drag.draw();
     if (this.isDue) return;
-    // While nodes are dragged, numbers change when the first draws of a place are all there.
-    if (this.dragged && !this.engine?.isReady) return;
     this.isDue = true;
     // The first draws at once, later ones not more often than one can read.
     const wait = found.done > FEW && found.done < found.wanted ? PANEL_WAIT : 0;
     window.setTimeout(() => requestAnimationFrame(() => {
       this.isDue = false;
-      this.showMap(this.dragged ?? this.store.state.plan);
+      this.showMap(this.drag.plan ?? this.store.state.plan);
       this.showProgress();
       if (["answers", "compare"].includes(this.store.state.tab)) this.showPanel();
     }), wait);
-  }
-
-  /** Asks for the bounds of the plan, once its first draws are there.
-   * @param {Found} found */
-  async ask(found) {
-    if (!this.engine || found.error || found === this.asked || !this.engine.isReady || this.dragged) return;
-    this.asked = found;
-    const told = await this.engine.ask("bounds", 1).then((answer) => answer.told, () => null);
-    if (this.found !== found) return;
-    this.bounds = told;
-    if (this.store.state.tab === "answers") this.showPanel();
   }
 
   /** @param {Plan} plan */
   showMap(plan) {
     const { selected, floor, threshold } = this.store.state;
     this.links.take(plan);
-    const grades = this.found && !this.found.error ? gradesOf(this.found) : new Map();
-    this.map.show({ plan, pairs: this.links.pairs, grades, selected, floor, threshold, picture: this.picture });
+    const { found, done } = this.graded, { seen } = this;
+    if (seen && (seen !== found || seen.done !== done)) this.graded = { found: seen, done: seen.done, grades: seen.error ? new Map() : gradesOf(seen) };
+    this.map.show({
+      plan, pairs: this.links.pairs, grades: this.graded.grades, selected, floor, threshold, picture: this.picture, version: this.links.version,
+      moving: new Set(this.drag.plan ? selected : []),
+    });
   }
 
   /** @param {import("./state.js").State} state */
@@ -217,27 +213,6 @@ export class Page {
   /** @param {string} message */
   failed(message) {
     this.store.set({ message, isBad: true });
-  }
-
-  /** While nodes are dragged: the map follows, and the engine draws as often as it can.
-   * @param {number} dx @param {number} dy */
-  drag(dx, dy) {
-    this.dragged = moved(this.store.state.plan, this.store.state.selected, dx, dy);
-    if (this.isFramed) return;
-    this.isFramed = true;
-    requestAnimationFrame(() => {
-      this.isFramed = false;
-      if (!this.dragged) return;
-      if (!this.engine || this.engine.isReady) this.draw(this.dragged, true);
-      this.showMap(this.dragged);
-    });
-  }
-
-  /** @param {number} dx @param {number} dy */
-  drop(dx, dy) {
-    const { plan, selected } = this.store.state;
-    this.dragged = null;
-    this.store.change(moved(plan, selected, dx, dy), `${selected.join(", ")} moved`);
   }
 
   /** @param {number} x @param {number} y */

@@ -24,7 +24,7 @@ export function panelOf(page, state) {
   if (state.tab === "compare") {
     return [
       compareView(
-        page.kept, page.found,
+        page.kept, page.seen,
         {
           keep: () => page.keep(), back: (place) => page.store.change(page.kept[place].found.plan, `back to ${page.kept[place].name}`),
           drop: (place) => page.forget(place),
@@ -47,7 +47,7 @@ export function panelOf(page, state) {
 
 /** @param {import("./page.js").Page} page @param {Plan} plan */
 function answersOf(page, plan) {
-  const { found } = page;
+  const found = page.seen;
   if (!found) return [];
   if (found.error) {
     return [h("section", { class: "empty" }, h("h2", {}, plan.node.length ? "Nothing to draw yet" : "An empty plan"), h("p", {}, found.error))];
@@ -55,10 +55,10 @@ function answersOf(page, plan) {
   const told = cautionsOf(plan, page.links.links);
   return [
     h("section", {}, h("h2", {}, "Requirements"), requirementsView(found)),
-    boundsView(page.bounds),
+    boundsView(found.bounds),
     told.length ? h("section", { class: "cautions" }, h("h2", {}, "Cautions"), h("ul", {}, told.map((one) => h("li", {}, one)))) : null,
     h("section", {}, h("h2", {}, "Streams"), streamsView(found)),
     // It changes little while a node is dragged, and takes long.
-    (page.nodes = page.dragged && page.nodes ? page.nodes : h("section", {}, h("h2", {}, "Nodes"), nodesView(found))),
+    (page.nodes = page.drag.plan && page.nodes ? page.nodes : h("section", {}, h("h2", {}, "Nodes"), nodesView(found))),
   ];
 }

@@ -8,7 +8,7 @@ import { PlanError } from "./plan_words.js";
 /** @typedef {import("./types.js").Row} Row */
 /**
  * What a worker is asked: first the module, then plans, then draws.
- * @typedef {{ module?: WebAssembly.Module, capacities?: Record<string, number>, event?: Row, plan?: Plan, generation: number, seed?: number,
+ * @typedef {{ module?: WebAssembly.Module, capacities?: Record<string, number>, event?: Row, plan?: Partial<Plan>, generation: number, seed?: number,
  *   failed?: string, seconds?: number, requirements?: number[], command?: string }} Asked
  */
 
@@ -28,6 +28,8 @@ export class Workman {
     this.given = { generation: 0 };
     /** @type {Map<string, ReturnType<typeof prepared>>} */
     this.prepared = new Map();
+    /** @type {import("./propagation.js").Links | undefined} */
+    this.links = undefined;
     /** @type {Opened | null} */
     this.opened = null;
   }
@@ -50,14 +52,16 @@ export class Workman {
   answer(asked) {
     const { plan, module } = asked;
     if (module || plan) {
-      this.given = { ...this.given, ...asked };
+      // Of a plan come the tables that are others than before.
+      this.given = { ...this.given, ...asked, plan: /** @type {Plan} */ ({ ...this.given.plan, ...plan }) };
       this.prepared.clear();
+      this.links = undefined;
       return null;
     }
     try {
       return { generation: asked.generation, ...this.done(asked) };
     } catch (error) {
-      return { generation: asked.generation, error: error instanceof Error ? error.message : String(error) };
+      return { generation: asked.generation, error: error instanceof Error ? error.message : String(error), isCommand: Boolean(asked.command) };
     }
   }
 
@@ -84,7 +88,9 @@ export class Workman {
     const plan = /** @type {Plan} */ (this.given.plan);
     let made = this.prepared.get(key);
     if (!made) {
-      made = prepared(planIn(plan, one, this.given.event ?? {}));
+      // What fails changes no link.
+      made = prepared(planIn(plan, one, this.given.event ?? {}), this.links);
+      this.links = made.links;
       this.prepared.set(key, made);
     }
     const run = (/** @type {string[]} */ words, /** @type {string} */ input) => this.run(words, input);
