@@ -3,7 +3,8 @@
 # line lengths of all Python by ruff, the shell scripts by shellcheck, and by tools/tidy.py what is too long in .rt and .antt files and
 # what crates.txt lists without need. The docstrings of the package's public functions are checked by numpydoc's validation, and
 # tools/docstrings.py says of which modules and by which checks. Debian 12 has no ruff: where it is missing, pyflakes and pycodestyle check
-# the same rules (those of [tool.ruff.lint] in python/pyproject.toml).
+# the same rules (those of [tool.ruff.lint] in python/pyproject.toml). The modules of the planner's page are checked by tsc and eslint, where they
+# are there (Debian's node-typescript and eslint).
 #
 # Usage: tools/lint.sh
 #
@@ -41,11 +42,18 @@ fi
 # Docstrings of what `__all__` of the public modules names: foldcairn, foldcairn.planning and foldcairn.results.
 run "$python" tools/docstrings.py
 
-# The modules of the planner's page: their types, and what is unused. (Debian's eslint 6 does not read this JavaScript.)
+# The modules of the planner's page: their types and what is unused by tsc, and the rules of tools/eslint. eslint is told where Debian has its
+# libraries, since another node than Debian's does not look there.
+page=python/src/foldcairn/studio/page
 if command -v tsc >/dev/null 2>&1; then
-    run tsc -p python/src/foldcairn/studio/page/tsconfig.json
+    run tsc -p $page/tsconfig.json
 else
-    echo "tools/lint.sh: there is no tsc (Debian's node-typescript), so the modules of the planner's page are not checked"
+    echo "tools/lint.sh: there is no tsc (Debian's node-typescript), so the types of the planner's page are not checked"
+fi
+if command -v eslint >/dev/null 2>&1; then
+    run env NODE_PATH=/usr/share/nodejs eslint --no-eslintrc -c tools/eslint/rules.json $page/js
+else
+    echo "tools/lint.sh: there is no eslint, so the rules of tools/eslint are not checked"
 fi
 
 # Those that other scripts read have the variables of these, and [ a -ot b ] is in all shells of Debian.

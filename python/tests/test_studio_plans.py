@@ -147,3 +147,17 @@ def _ratios(text: str) -> dict[str, int]:
     """The ratio of each link in millionths, 1 without a line."""
     links = {line[5:]: 1_000_000 for line in text.splitlines() if line.startswith("link ")}
     return links | {" ".join(line.split()[2:4]): int(line.split()[4]) for line in text.splitlines() if line.startswith("ratio ")}
+
+
+def test_bounds_in_words_also_those_that_are_not_known_yet() -> None:
+    told = {"text": "", "names": [[7, "Host"], [9, "Pump"]], "frame": 4}
+    lines = {
+        "holds first 7 0 5 5": "Host has its first round from 20 s on, 5 frames after it boots at 0 s: whatever is lost.",
+        "holds failover 9 6 27 21": "Pump hosts from 108 s on, 21 frames after the last host before it goes off at 24 s: whatever is lost.",
+        "open failover 7 power": "Host: its takeover has no bound, since a host is switched in a way that the bound does not allow.",
+        "open first 8 3 rounds 12": "node 8: its first round has no bound, since the run ends before.",
+        "holds joined 7 9 0 12 12": "Host: the bound “joined” holds (9 0 12 12), whatever is lost.",
+        "open scanning 7 9 losses 4": "Host: the bound “scanning” is open, since a premise is not met.",
+        "holds constructor 7": "Host: the bound “constructor” holds, whatever is lost.",
+    }  # fmt: skip
+    assert calls([("bounds", "boundText", [told, line]) for line in lines]) == list(lines.values())

@@ -1,4 +1,4 @@
-// Bounds on the plan's hosts that the proved program finds to hold for every seed, in words. Tested, not proved.
+// Bounds that the proved program finds to hold for every seed, whatever is lost, in words. Tested, not proved.
 import { h } from "./dom.js";
 
 /** @typedef {{ text: string, names: [number, string][], frame: number }} Told what `bounds` wrote, the names of ids, and the seconds of a frame */
@@ -6,21 +6,24 @@ import { h } from "./dom.js";
 const REASONS = /** @type {Record<string, string>} */ ({
   power: "a host is switched in a way that the bound does not allow", boots: "it does not boot", rounds: "the run ends before",
 });
+// What a bound says of its node where it holds, and what is without a bound where it is open. Others are told by their names.
+const KNOWN = /** @type {Record<string, { what: string, after: string, open: string }>} */ ({
+  first: { what: "has its first round", after: "it boots", open: "its first round" },
+  failover: { what: "hosts", after: "the last host before it goes off", open: "its takeover" },
+});
 
 /**
- * A line of `bounds` in words.
+ * A line `holds NAME HOST FRAME FROM FRAMES`, or `open NAME HOST FRAME REASON LINE`, in words. Of a bound that is not known here, its name and what
+ * follows it are told as they are.
  * @param {Told} told @param {string} line @returns {string}
  */
 export function boundText({ names, frame }, line) {
-  const [verdict, bound, id, ...rest] = line.split(" ");
-  const name = new Map(names).get(Number(id)) ?? `node ${id}`, isFirst = bound === "first";
-  if (verdict === "holds") {
-    const [since, from, frames] = rest.map(Number);
-    const what = isFirst ? "has its first round" : "hosts", after = isFirst ? "it boots" : "the last host before it goes off";
-    return `${name} ${what} from ${from * frame} s on, ${frames} frames after ${after} at ${since * frame} s: whatever is lost.`;
-  }
-  const reason = rest.find((word) => word in REASONS) ?? "";
-  return `${name}: ${isFirst ? "its first round" : "its takeover"} has no bound, since ${REASONS[reason] ?? "a premise is not met"}.`;
+  const [verdict, bound = "", id = "", ...rest] = line.split(" "), [since, from, frames] = rest.map(Number);
+  const name = new Map(names).get(Number(id)) ?? `node ${id}`, known = Object.hasOwn(KNOWN, bound) ? KNOWN[bound] : null;
+  const called = known ? known.open : `the bound “${bound}”`, reason = rest.find((word) => Object.hasOwn(REASONS, word));
+  if (verdict !== "holds") return `${name}: ${called} ${known ? "has no bound" : "is open"}, since ${reason ? REASONS[reason] : "a premise is not met"}.`;
+  if (!known || !Number.isFinite(frames)) return `${name}: ${called} holds${rest.length ? ` (${rest.join(" ")})` : ""}, whatever is lost.`;
+  return `${name} ${known.what} from ${from * frame} s on, ${frames} frames after ${known.after} at ${since * frame} s: whatever is lost.`;
 }
 
 /** The part of the answers with bounds, or null where the program told none.

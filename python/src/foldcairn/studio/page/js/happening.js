@@ -83,11 +83,10 @@ export function happenings(plan, links, frame, frames, seed) {
 /** @param {Row} event @param {number} start @param {number} frame @param {number} frames */
 function spansOf(event, start, frame, frames) {
   const found = [], seconds = frames * frame;
-  while (start < seconds) {
-    const end = event.for === null ? seconds : Math.min(seconds, start + event.for);
-    found.push({ first: frameOf(start, frame), end: Math.min(frames, frameFrom(end, frame)) });
+  for (let at = start; at < seconds; at += event.every) {
+    const end = event.for === null ? seconds : Math.min(seconds, at + event.for);
+    found.push({ first: frameOf(at, frame), end: Math.min(frames, frameFrom(end, frame)) });
     if (event.every === null) break;
-    start += event.every;
   }
   return found;
 }

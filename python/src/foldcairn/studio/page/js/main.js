@@ -5,8 +5,8 @@ import { byId } from "./dom.js";
 import { work } from "./worker.js";
 
 /** The bytes of a script element that has them compressed.
- * @param {string} id */
-async function unpacked(id) {
+ * @param {string} id @returns {Promise<ArrayBuffer>} */
+function unpacked(id) {
   const bytes = Uint8Array.from(atob(byId(id).textContent.trim()), (letter) => letter.charCodeAt(0));
   return new Response(new Blob([bytes]).stream().pipeThrough(new (/** @type {any} */ (globalThis).DecompressionStream)("gzip"))).arrayBuffer();
 }

@@ -3,7 +3,7 @@ import { progressText } from "./answers.js";
 import { byId, button, refill } from "./dom.js";
 import { Drag } from "./drag.js";
 import { withNode, without } from "./edits.js";
-import { Engine, FEW, isReady, nothingOf } from "./engine.js";
+import { FEW, isReady, nothingOf } from "./engine.js";
 import { gradesOf } from "./figures.js";
 import { planOfFiles } from "./files.js";
 import { FloodView } from "./flood.js";
@@ -26,7 +26,7 @@ const TABS = /** @type {[string, string][]} */ ([["answers", "Answers"], ["plan"
 const PANEL_WAIT = 250;
 
 export class Page {
-  /** @param {Given} given @param {Engine | null} engine null where there is no WebAssembly */
+  /** @param {Given} given @param {import("./engine.js").Engine | null} engine null where there is no WebAssembly */
   constructor(given, engine) {
     this.given = given;
     this.engine = engine;

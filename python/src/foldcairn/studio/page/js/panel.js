@@ -106,8 +106,9 @@ export function planView(means, plan) {
     "details", { class: "card", open: isOpen, "data-row": table }, h("summary", {}, title), rowFields(means, plan, table, 0),
   );
   const free = (/** @type {string} */ base) => {
+    const taken = new Set(plan.requirement.map((one) => one.name));
     let count = plan.requirement.length + 1;
-    while (plan.requirement.some((one) => one.name === `${base} ${count}`)) count += 1;
+    while (taken.has(`${base} ${count}`)) count += 1;
     return `${base} ${count}`;
   };
   return [

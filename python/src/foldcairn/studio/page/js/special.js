@@ -5,10 +5,10 @@
 
 const LITTLE = 1e-300, ENOUGH = 1e-15;
 
-/** What Stirling's formula lacks of the logarithm of the gamma function, for z above 0.
- * @param {number} z */
-function stirlingRest(z) {
-  let rest = 0;
+/** What Stirling's formula lacks of the logarithm of the gamma function, for a number above 0.
+ * @param {number} of */
+function stirlingRest(of) {
+  let rest = 0, z = of;
   for (; z < 16; z++) rest += (z + 0.5) * Math.log1p(1 / z) - 1;
   const square = 1 / (z * z);
   return rest + (1 / 12 - square * (1 / 360 - square * (1 / 1260 - square * (1 / 1680 - square / 1188)))) / z;

@@ -137,9 +137,10 @@ class TomlReader {
   }
 
   /** key = value.
-   * @param {Table} table @param {number} kind of the tables that dots make */
-  pair(table, kind) {
+   * @param {Table} outer @param {number} kind of the tables that dots make */
+  pair(outer, kind) {
     const { scanner } = this;
+    let table = outer;
     const start = scanner.at;
     const names = scanner.keys();
     const last = /** @type {string} */ (names.pop());
