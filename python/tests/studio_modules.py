@@ -28,7 +28,7 @@ def calls(asked: list[tuple[str, str, list[Any]]]) -> list[Any]:
     assert ran.returncode == 0, ran.stderr
     answers = [json.loads(line) for line in ran.stdout.splitlines()]
     assert len(answers) == len(asked)
-    return [Raised(one["error"]) if "error" in one else _plain(one.get("value")) for one in answers]
+    return [Raised(one["error"]) if "error" in one else plain(one.get("value")) for one in answers]
 
 
 def call(module: str, name: str, *args: Any) -> Any:
@@ -39,10 +39,11 @@ def call(module: str, name: str, *args: Any) -> Any:
     return found
 
 
-def _plain(value: Any) -> Any:
+def plain(value: Any) -> Any:
+    """A value with the numbers that JSON has not."""
     if isinstance(value, dict) and list(value) == ["$"]:
         text = value["$"]
         return float(text.replace("Infinity", "inf")) if text in ("Infinity", "-Infinity", "NaN") else int(text) if text.lstrip("-").isdigit() else text
     if isinstance(value, dict):
-        return {key: _plain(one) for key, one in value.items()}
-    return [_plain(one) for one in value] if isinstance(value, list) else value
+        return {key: plain(one) for key, one in value.items()}
+    return [plain(one) for one in value] if isinstance(value, list) else value

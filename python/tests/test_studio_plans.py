@@ -66,7 +66,7 @@ def _losses(chance: random.Random, source: str) -> str:
     return f"[losses]\nfrom = '{source}'\npreset = '{preset}'\n{exponent}\n{walls}\n{more}\n{both}"
 
 
-def _text(number: int) -> str:
+def random_text(number: int) -> str:
     chance = random.Random(number)
     names = chance.sample(["A-101", "L-01", "L-2", "L-10", "Käse", "7", "x y", "Ofen"], chance.randint(3, 7))
     source, profile = chance.choice(["positions", "survey", "both", "none"]), chance.choice([1, 2])
@@ -84,7 +84,7 @@ def _text(number: int) -> str:
 
 def test_networks_of_random_plans_are_those_of_python() -> None:
     schema = given.schema()
-    texts = [_text(number) for number in range(PLANS)]
+    texts = [random_text(number) for number in range(PLANS)]
     plans = calls([("plan_file", "readPlan", [schema, text]) for text in texts])
     asked: list[Any] = [("network", "networkText", [plan, seed]) for plan in plans for seed in SEEDS]
     found = iter(calls(asked))

@@ -81,7 +81,10 @@ def _of_seeds(plan: Plan, seeds: Sequence[int], first: int) -> dict[int, dict[st
 def _of_draw(plan: Plan, network: Scenario, seed: int, with_packets: bool) -> dict[str, pd.DataFrame]:
     ids = {name: node for node, name in network.labels.items()}
     whom = {stream.name: _receivers(stream, ids) for stream in plan.streams.values()}
-    wanted = set(network.hosts.values()).union(*(one for one in whom.values() if one is not None))
+    hosts = set(network.hosts.values())
+    # That a host hosted its own packet is seen by any delivery.
+    is_seen_anywhere = any(whom[stream.name] is None and ids[stream.source] in hosts for stream in plan.streams.values())
+    wanted = set(network.nodes) if is_seen_anywhere else hosts.union(*(one for one in whom.values() if one is not None))
     came = counting.came(network, seed, nodes=wanted)
     lives = _years(plan, network, seed, came.cost, ids)
     keys = {stream.name: (ids[stream.source], stream.number or 0) for stream in plan.streams.values()}

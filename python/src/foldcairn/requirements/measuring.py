@@ -147,9 +147,11 @@ class Draw:
     def came(self) -> Came:
         """What came of this draw, at the receivers of all requirements."""
         wanted: set[int] = set()
+        hosts = set(self.network.hosts.values())
         for requirement in [*(one for one in self.task.requirements if one.joined is None and one.years is None), *([None] if self.whole else [])]:
-            for _, receivers in self.units(requirement):
-                wanted |= set(self.network.hosts.values()) if receivers is None else receivers
+            for stream, receivers in self.units(requirement):
+                # That a host hosted its own packet is seen by any delivery.
+                wanted |= receivers if receivers is not None else set(self.network.nodes) if self.ids[stream.source] in hosts else hosts
         return counting.came(self.network, self.seed, nodes=wanted)
 
     def units(self, requirement: Requirement | None) -> list[tuple[Stream, frozenset[int] | None]]:

@@ -1,5 +1,6 @@
 // What is measured of one draw of a plan: for the table of streams, for the nodes, and for each requirement, as foldcairn.requirements
 // measures it. It runs in a worker. Tested, not proved.
+import { frameOf } from "./happening.js";
 import { networkOf, nodesOf } from "./network.js";
 import { cameOf, costsOf, countAt, isAnywhere, maskOf, streamKey } from "./outcome.js";
 
@@ -18,7 +19,8 @@ import { cameOf, costsOf, countAt, isAnywhere, maskOf, streamKey } from "./outco
  */
 
 const LITTLE = 1e-9, WAITING_FRAMES = 12, HOURS_A_YEAR = 24 * 365.25;
-const START_PART = 0.1, START_FRAMES = 36, WATCHED = 4, WATCHED_FRAMES = 24;
+// As foldcairn.requirements.membership has them: the start of a run, how long is watched, and how far rounds are apart at most, in frames.
+const START_PART = 0.1, START_FRAMES = 36, WATCHED = 4, GAP = 4;
 
 /** The plan in a case.
  * @param {Plan} plan @param {Case} one @param {Row} event an event with its defaults @returns {Plan} */
@@ -71,12 +73,15 @@ class Drawn {
     this.lives = undefined;
   }
 
-  /** The nodes whose deliveries count.
+  /** The nodes whose deliveries count. That a host hosted its own packet is seen by any delivery.
    * @param {Row[]} requirements */
   wanted(requirements) {
-    const found = new Set(this.network.hosts.values());
-    const asked = requirements.filter((one) => one.to !== null && one.to !== "hosts").map((one) => one.to);
-    for (const stream of this.plan.stream) for (const to of [null, ...asked]) for (const node of this.receivers(stream, to) ?? []) found.add(node);
+    const found = new Set(this.network.hosts.values()), hosts = new Set(found), { ids } = this.network;
+    const asked = [null, ...requirements.filter((one) => one.to !== null).map((one) => one.to)];
+    for (const stream of this.plan.stream) {
+      const all = hosts.has(ids.get(stream.from) ?? -1) ? this.nodes : [];
+      for (const to of asked) for (const node of this.receivers(stream, to) ?? all) found.add(node);
+    }
     found.delete(-1);
     return found;
   }
@@ -104,14 +109,17 @@ class Drawn {
     return found;
   }
 
-  /** The part of the packets that came in time, or at all without a deadline, and the latencies, each with how many deliveries had it.
+  /** The part of the packets that came in time, or at all without a deadline; and of all packets the latencies, each with how many deliveries had it.
    * @param {Row} stream @param {Set<number> | null} receivers @param {number | null} deadline */
   share(stream, receivers, deadline) {
     const { came, network } = this, latest = network.frames * network.frame - (deadline ?? WAITING_FRAMES * network.frame) + LITTLE;
-    const due = this.arrived(stream, receivers).filter(([packet]) => came.put[packet] <= latest && came.put[packet] >= this.case.seconds);
-    const late = due.filter(([, count]) => count).map(([packet, count]) => /** @type {[number, number]} */ ([came.seconds[packet] - came.put[packet], count]));
-    const arrived = late.reduce((sum, [seconds, count]) => sum + (deadline === null || seconds <= deadline + LITTLE ? count : 0), 0);
-    return { value: due.length ? arrived / (due.length * (receivers ? receivers.size : 1)) : null, packets: due.length, latencies: late };
+    const ours = this.arrived(stream, receivers), late = (/** @type {number} */ packet) => came.seconds[packet] - came.put[packet];
+    const due = ours.filter(([packet]) => came.put[packet] <= latest && came.put[packet] >= this.case.seconds);
+    const arrived = due.reduce((sum, [packet, count]) => sum + (deadline === null || late(packet) <= deadline + LITTLE ? count : 0), 0);
+    return {
+      value: due.length ? arrived / (due.length * (receivers ? receivers.size : 1)) : null, packets: due.length,
+      latencies: ours.filter(([, count]) => count).map(([packet, count]) => /** @type {[number, number]} */ ([late(packet), count])),
+    };
   }
 
   /** How long nothing arrived after the failure.
@@ -136,14 +144,36 @@ class Drawn {
     return { network: made, costs: costsOf(this.run(["outcome", String(this.seed)], made.text)) };
   }
 
-  /** By when each node was a member, in seconds after it was switched on first.
+  /** In how many of the first frames each node searched for a host.
+   * @param {number} count @returns {(node: number) => number} */
+  scanned(count) {
+    const costs = count > 0 ? this.begun(count).costs : new Map();
+    return (node) => costs.get(node)?.scanned ?? 0;
+  }
+
+  /** How long each node searched until it was a member, in seconds after it was switched on first. One that did not join in time is watched longer.
    * @param {number} wanted @returns {Map<number, number>} */
   joined(wanted) {
-    const { network } = this, firsts = new Map();
+    const { network } = this, frames = Math.ceil(wanted / network.frame);
+    /** @type {Map<number, number>} */
+    const firsts = new Map();
     for (const line of network.script) if (line.kind === "on" && !firsts.has(line.node)) firsts.set(line.node, line.frame);
-    const count = Math.max(0, ...firsts.values()) + Math.max(WATCHED_FRAMES, WATCHED * Math.ceil(wanted / network.frame));
-    const { costs } = this.begun(count);
-    return new Map([...this.nodes].map((node) => [node, firsts.has(node) ? (costs.get(node)?.scanned ?? 0) * network.frame : Infinity]));
+    const last = Math.max(0, ...firsts.values()) + frames, searched = this.scanned(last);
+    const isLate = (/** @type {number} */ node) => searched(node) >= last - (firsts.get(node) ?? 0);
+    const longer = [...firsts.keys()].some(isLate) ? this.scanned(last + (WATCHED - 1) * frames) : searched;
+    return new Map([...this.nodes].map((node) => [node, firsts.has(node) ? (isLate(node) ? longer : searched)(node) * network.frame : Infinity]));
+  }
+
+  /** How long after the failure each node was a member again, in seconds: 0 where it did not search for a host, else also the time in which it does
+   * not notice that its host is gone.
+   * @param {number} wanted @returns {Map<number, number>} */
+  back(wanted) {
+    const { network } = this, begin = frameOf(this.case.seconds, network.frame);
+    const before = this.scanned(begin), after = this.scanned(begin + GAP + WATCHED * Math.ceil(wanted / network.frame));
+    return new Map([...this.nodes].map((node) => {
+      const count = after(node) - before(node);
+      return [node, count ? (GAP + count) * network.frame : 0];
+    }));
   }
 
   /** How long each node had power, transmitted and was on, in seconds.
@@ -189,7 +219,7 @@ class Drawn {
       /** @type {Map<number, number>} */ values
     ) => Object.fromEntries(nodesFor(this.plan, requirement).filter((node) => node.name !== this.case.failed)
       .map((node) => [node.name, /** @type {[number, number]} */ ([values.get(this.network.ids.get(node.name) ?? -1) ?? Infinity, 0])]));
-    if (requirement.joined !== null) return named(this.joined(requirement.joined));
+    if (requirement.joined !== null) return named(this.case.failed ? this.back(requirement.joined) : this.joined(requirement.joined));
     if (requirement.years !== null) return named((this.lives ??= this.years()));
     /** @type {Values} */
     const found = {};
