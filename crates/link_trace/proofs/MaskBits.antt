@@ -32,6 +32,15 @@ both a b = grind (arith, nat_tests)
 shared : (n a b : Bool) → ((n && a) && (n && b)) ≡ (n && (a && b))
 shared n a b = grind (arith, nat_tests)
 
+asked : (e n a b : Bool) → max (one_if (e && (n && a))) (one_if (e && (n && b))) ≡ one_if (e && (n && (a || b)))
+asked e n a b = grind (arith, nat_tests)
+
+set_so : (n p : Bool) → one_if (n && p) ≡ 1 → p ≡ true
+set_so n p is = grind (arith, nat_tests)
+
+unset_so : (n p : Bool) → n ≡ true → one_if (n && p) ≡ 0 → p ≡ false
+unset_so n p inside is = grind (arith, nat_tests)
+
 nothing : (b : Bool) → one_if (b && false) ≡ 0
 nothing true = refl
 nothing false = refl
@@ -72,6 +81,47 @@ module _ (nodes : List ℕ) where
     where
       kept : (t : Bool) (b : ℕ) → b < 2 → min (one_if t) b ≡ one_if ((b == 1) && t)
       kept t b small = grind (arith, nat_tests)
+
+  -- a node whose bit is not set
+  pub if_unset : (p : ℕ → Bool) (a : ℕ) → IsMask p nodes a → (i : ℕ) → i < length nodes → bit_at a i ≡ 0 → p (get_or nodes i 0) ≡ false
+  if_unset p a is i inside none = unset_so (nat_lt i (length nodes)) (p (get_or nodes i 0)) (lt-ltb i (length nodes) inside) (sym (is i) ∙ none)
+
+  -- of those of a set: none, and both masks together
+  pub none_among : (among : ℕ) → IsMaskAmong (λ u. false) nodes among 0
+  none_among among i =
+      let e = bit_at among i == 1 in
+      let n = nat_lt i (length nodes) in
+      bit_at-zero i ∙ sym (ap (λ (b : Bool). one_if (e && b)) (second n) ∙ nothing e)
+    where
+      second : (b : Bool) → (b && false) ≡ false
+      second true = refl
+      second false = refl
+
+  pub joined_among : (p q : ℕ → Bool) (among a b : ℕ) → IsMaskAmong p nodes among a → IsMaskAmong q nodes among b
+      → IsMaskAmong (λ u. p u || q u) nodes among (bit_or a b)
+  joined_among p q among a b a_is b_is i =
+      let u = get_or nodes i 0 in
+      let n = nat_lt i (length nodes) in
+      bit_at_or a b i ∙ rw (a_is i, b_is i) (asked (bit_at among i == 1) n (p u) (q u))
+
+  pub same_among : (p q : ℕ → Bool) (among a : ℕ) → ((u : ℕ) → p u ≡ q u) → IsMaskAmong p nodes among a → IsMaskAmong q nodes among a
+  same_among p q among a same is i =
+      is i ∙ ap (λ (b : Bool). one_if ((bit_at among i == 1) && (nat_lt i (length nodes) && b))) (same (get_or nodes i 0))
+
+  -- what a bit tells of a node, if the node was asked for
+  pub set_among : (p : ℕ → Bool) (among a : ℕ) → IsMaskAmong p nodes among a → (i : ℕ) → bit_at a i ≡ 1 → p (get_or nodes i 0) ≡ true
+  set_among p among a is i one =
+      let n = nat_lt i (length nodes) in
+      let t = p (get_or nodes i 0) in
+      set_so n t (ap one_if (set_so (bit_at among i == 1) (n && t) (sym (is i) ∙ one)))
+
+  pub unset_among : (p : ℕ → Bool) (among a : ℕ) → IsMaskAmong p nodes among a → (i : ℕ) → i < length nodes → bit_at among i ≡ 1 → bit_at a i ≡ 0
+      → p (get_or nodes i 0) ≡ false
+  unset_among p among a is i inside there none =
+      let n = nat_lt i (length nodes) in
+      let t = p (get_or nodes i 0) in
+      unset_so n t (lt-ltb i (length nodes) inside)
+      (ap one_if (unset_so (bit_at among i == 1) (n && t) (ap (λ (b : ℕ). b == 1) there) (sym (is i) ∙ none)))
 
   -- no node
   pub none : (v : ℕ) → ((k : ℕ) → k < length nodes → v ≢ get_or nodes k 0) → IsMask (λ u. v == u) nodes 0

@@ -1,5 +1,5 @@
 -- Masks of the nodes of a seal, and those that a sealed trace keeps.
-use Rattle.std.specs.Prelude.{◌≡◌, ℕ, ◌<◌, ◌≤◌, List, Bool, ◌&&◌, ◌==◌, nat_lt, length, slice_index, slice_index_or, if◌then◌else◌}
+use Rattle.std.specs.Prelude.{◌≡◌, ℕ, ◌<◌, ◌≤◌, List, Bool, false, ◌&&◌, ◌==◌, nat_lt, length, slice_index, slice_index_or, if◌then◌else◌}
 use Rattle.std.specs.Int.{bit_at}
 use Rattle.std.specs.List.{list_any, AllPairs}
 use Rattle.lwb_base.specs.declared.limits.TheConstants.{MOST_NODES}
@@ -28,6 +28,10 @@ IsMask test nodes mask = IsMaskUpto test nodes (length nodes) mask
 abbrev pub IsMaskAmong : (ℕ → Bool) → List ℕ → ℕ → ℕ → Type 0
 IsMaskAmong test nodes among mask =
     (i : ℕ) → bit_at mask i ≡ (if (bit_at among i == 1) && (nat_lt i (length nodes) && test (slice_index nodes i)) then 1 else 0)
+
+-- each node of which the test holds has its bit
+abbrev pub HasAll : (ℕ → Bool) → List ℕ → ℕ → Type 0
+HasAll test nodes mask = (i : ℕ) → i < length nodes → bit_at mask i ≡ 0 → test (slice_index nodes i) ≡ false
 
 -- one for each node, of the nodes that have a link to it and of those to which it has one
 pub record AreLinkMasks (links : List LinkLine) (nodes : List ℕ) (masks : List LinkMasks) : Type 0 where

@@ -1,7 +1,7 @@
 //! What a medium asks of a trace, as a trait.
 
 ghost use Rattle.std.specs.Prelude.{◌≡◌, ℕ, List, ◌<◌, length, slice_index};
-ghost use Rattle.link_trace.specs.Masks.{IsMask, IsMaskAmong};
+ghost use Rattle.link_trace.specs.Masks.{IsMask, IsMaskAmong, HasAll};
 ghost use Rattle.link_trace.specs.Passes.{Lines, passes, captured as captured_by};
 
 use crate::{NodeSet, Trace};
@@ -20,6 +20,16 @@ pub trait Links {
         requires { at < length (nodes self.now) }
         ensures { IsMask (λ from. passes (lines self.now) frame slot step from (slice_index (nodes self.now) at))
             (nodes self.now) result };
+
+    /// Nodes among which are all from which a link to node `at` passes in that frame, slot and step. Where coins decide what
+    /// passes, these are more, and no coin is thrown for them.
+    fn may_reach(&self, frame: u32, slot: u8, step: u8, at: u8) -> NodeSet
+        requires { at < length (nodes self.now) }
+        ensures { HasAll (λ from. passes (lines self.now) frame slot step from (slice_index (nodes self.now) at))
+            (nodes self.now) result }
+    {
+        NodeSet::of_word(self.from_mask(frame, slot, step, at))
+    }
 
     /// The nodes to which a link from node `from` passes in that frame, slot and step: bit i is that of node i, and bits
     /// past the nodes are 0. Nodes are counted from 0, as the seal names them.
