@@ -2,7 +2,7 @@
 use Rattle.std.proofs.Common.{◌≡◌, ℕ, Bool, true, false, not, ◌&&◌, ◌==◌, nat_lt, List, length, get_or, if◌then◌else◌, refl, sym, ◌∙◌, ap}
 use Rattle.std.specs.Int.{bit_at}
 use Rattle.lwb_base.proofs.Truths.{one_if}
-use Rattle.link_trace.specs.Masks.{IsMask, IsMaskAmong}
+use Rattle.link_trace.specs.Masks.{IsMask, IsMaskAmong, HasAll}
 use Rattle.link_trace.specs.Passes.{Lines, passes}
 use Rattle.drawn_links.specs.DrawnLosses.{drawn, is_drawn}
 use Rattle.drawn_links.specs.Drawings.{IsWithout, has_coins}
@@ -68,6 +68,13 @@ module _ (t : Lines) (ratios : List RatioLine) (seed frames f j k : ℕ) (nodes 
       let v = get_or nodes i 0 in
       is i ∙ ap (λ (b : Bool). one_if (nat_lt i (length nodes) && b))
       (sym (passes_drawn t ratios seed frames f j k u v ∙ all_pass (passes t f j k u v) u v none))
+
+  -- what passes is among what passes over the trace
+  pub more_to_it : (v mask : ℕ) → HasAll (λ u. passes t f j k u v) nodes mask → HasAll (λ u. passes (drawn t ratios seed frames) f j k u v) nodes mask
+  more_to_it v mask has i inside none =
+      let u = get_or nodes i 0 in
+      passes_drawn t ratios seed frames f j k u v
+      ∙ ap (λ (b : Bool). b && not (has_coins frames f j k && is_drawn ratios seed f j k u v)) (has i inside none)
 
   -- the same of those of a set
   pub kept_among : (u among mask kept : ℕ) → has_coins frames f j k ≡ true → IsMaskAmong (λ v. passes t f j k u v) nodes among mask

@@ -146,6 +146,11 @@ impl<'a> Links for DrawnLinks<'a> {
         .word()
     }
 
+    // No coin is thrown.
+    fn may_reach(&self, frame: u32, slot: u8, step: u8, at: u8) -> NodeSet {
+        self.trace.may_reach(frame, slot, step, at)
+    }
+
     fn to_mask(&self, frame: u32, slot: u8, step: u8, from: u8) -> u64 {
         let receivers = self.trace.to_mask(frame, slot, step, from);
         if !has_coins(self.frames, frame, slot, step) {
