@@ -91,7 +91,7 @@ module _ (p : Numbers) (x : Sending) (st : Station) (mk : Mark) (origin : Origin
         ap (λ (w : Rival). w.in_time) (sym c.is) ∙ in_time,
       )
 
-  pub along_comes : (lines : Lines) (nodes : List ℕ) → IsCrowd lines nodes (rivals_in p x st) no_crowd
-  along_comes lines nodes = harmless_come lines nodes (rivals_in p x st)
+  pub along_comes : (lines : Lines) (nodes : List ℕ) (among : ℕ) → IsCrowd lines nodes among (rivals_in p x st) no_crowd
+  along_comes lines nodes among = harmless_come lines nodes among (rivals_in p x st)
       (λ v. all_same lines v (rivals_in p x st) (λ r there. (one_packet r there).0))
       (λ v. all_in_time lines v (rivals_in p x st) (λ r there reached. (one_packet r there).1))

@@ -1,4 +1,4 @@
--- What rivals bring by masks: of none, of one, and of two lists of them.
+-- What rivals bring to the nodes of a set by masks: of none, of one, and of two lists of them.
 use Rattle.std.proofs.Common.{arith, ◌≡◌, ◌≢◌, ℕ, List, [], ◌∷◌, ◌++◌, get_or, Bool, true, false, not, ◌&&◌, ◌||◌, ◌==◌, if◌then◌else◌, Option}
 use Rattle.std.proofs.Common.{Some, None, option_to_list, filter_map, bit_or, eq-eqb, refl, sym, ◌∙◌, ap, subst}
 use Rattle.std.proofs.lemmas.Bool.Decides.{nat_tests}
@@ -6,9 +6,9 @@ use Rattle.std.proofs.lemmas.Bool.{and_parts, eqb-true, false_from_ne_true}
 use Rattle.std.proofs.lemmas.List.Folds.{list_any-append}
 use Rattle.std.specs.List.{list_any, cons_option}
 use Rattle.lwb_base.specs.Profile.{Numbers}
-use Rattle.link_trace.specs.Masks.{IsMask}
+use Rattle.link_trace.specs.Masks.{IsMaskAmong}
 use Rattle.link_trace.specs.Passes.{Lines}
-use Rattle.link_trace.proofs.MaskBits.{empty_mask, joined, same_tests}
+use Rattle.link_trace.proofs.MaskBits.{none_among, joined_among, same_among}
 use Rattle.radio_model.specs.Stations.{on_air, overlaps}
 use Rattle.radio_model.specs.Meetings.{rival_to, rivals_in, passes_at, reaches, comes_from, spoils, differs, repeats, IsPlaceOf}
 use Rattle.radio_model.specs.Meetings.{IsBrought, nothing_brought, both_brought, brought_by, IsCrowd, no_crowd}
@@ -37,57 +37,58 @@ of_sender : (b : Bool) (s r : Rival) → (if b then Some s else None) ≡ Some r
 of_sender true s r is = let same : s ≡ r = cc in ap (λ (w : Rival). w.node) (sym same)
 of_sender false s r is = cc
 
-module _ (lines : Lines) (nodes : List ℕ) where
-  pub nothing_comes : IsBrought lines nodes [] nothing_brought
-  nothing_comes = record { mixed = empty_mask nodes; spoiled = empty_mask nodes; same = empty_mask nodes }
+module _ (lines : Lines) (nodes : List ℕ) (among : ℕ) where
+  pub nothing_comes : IsBrought lines nodes among [] nothing_brought
+  nothing_comes = record { mixed = none_among nodes among; spoiled = none_among nodes among; same = none_among nodes among }
 
-  pub nobody_comes : IsCrowd lines nodes [] no_crowd
-  nobody_comes = record { mixed = empty_mask nodes; spoiled = empty_mask nodes }
+  pub nobody_comes : IsCrowd lines nodes among [] no_crowd
+  nobody_comes = record { mixed = none_among nodes among; spoiled = none_among nodes among }
 
   -- rivals of which none has another packet or comes out of time
   pub harmless_come : (rs : List Rival) → ((v : ℕ) → list_any (differs lines v) rs ≡ false) → ((v : ℕ) → list_any (spoils lines v) rs ≡ false)
-      → IsCrowd lines nodes rs no_crowd
+      → IsCrowd lines nodes among rs no_crowd
   harmless_come rs same in_time = record {
-    mixed = same_tests nodes (λ v. false) (λ v. list_any (differs lines v) rs) 0 (λ v. sym (same v)) (empty_mask nodes);
-    spoiled = same_tests nodes (λ v. false) (λ v. list_any (spoils lines v) rs) 0 (λ v. sym (in_time v)) (empty_mask nodes);
+    mixed = same_among nodes (λ v. false) (λ v. list_any (differs lines v) rs) among 0 (λ v. sym (same v)) (none_among nodes among);
+    spoiled = same_among nodes (λ v. false) (λ v. list_any (spoils lines v) rs) among 0 (λ v. sym (in_time v)) (none_among nodes among);
   }
 
-  either_list : (test : ℕ → Rival → Bool) (rs ss : List Rival) (a b : ℕ) → IsMask (λ v. list_any (test v) rs) nodes a
-      → IsMask (λ v. list_any (test v) ss) nodes b
-      → IsMask (λ v. list_any (test v) (rs ++ ss)) nodes (bit_or a b)
+  either_list : (test : ℕ → Rival → Bool) (rs ss : List Rival) (a b : ℕ) → IsMaskAmong (λ v. list_any (test v) rs) nodes among a
+      → IsMaskAmong (λ v. list_any (test v) ss) nodes among b
+      → IsMaskAmong (λ v. list_any (test v) (rs ++ ss)) nodes among (bit_or a b)
   either_list test rs ss a b a_is b_is =
-      same_tests nodes (λ v. list_any (test v) rs || list_any (test v) ss) (λ v. list_any (test v) (rs ++ ss)) (bit_or a b)
-      (λ v. sym (list_any-append (test v) rs ss)) (joined nodes (λ v. list_any (test v) rs) (λ v. list_any (test v) ss) a b a_is b_is)
+      same_among nodes (λ v. list_any (test v) rs || list_any (test v) ss) (λ v. list_any (test v) (rs ++ ss)) among (bit_or a b)
+      (λ v. sym (list_any-append (test v) rs ss)) (joined_among nodes (λ v. list_any (test v) rs) (λ v. list_any (test v) ss) among a b a_is b_is)
 
-  pub both_come : (rs ss : List Rival) (a b : Brought) → IsBrought lines nodes rs a → IsBrought lines nodes ss b
-      → IsBrought lines nodes (rs ++ ss) (both_brought a b)
+  pub both_come : (rs ss : List Rival) (a b : Brought) → IsBrought lines nodes among rs a → IsBrought lines nodes among ss b
+      → IsBrought lines nodes among (rs ++ ss) (both_brought a b)
   both_come rs ss a b a_is b_is = record {
     mixed = either_list (differs lines) rs ss a.mixed b.mixed a_is.mixed b_is.mixed;
     spoiled = either_list (spoils lines) rs ss a.spoiled b.spoiled a_is.spoiled b_is.spoiled;
     same = either_list (repeats lines) rs ss a.same b.same a_is.same b_is.same;
   }
 
-  where_so : (test : ℕ → Bool) (b : Bool) (reach : ℕ) → IsMask test nodes reach → IsMask (λ v. (test v && b) || false) nodes (if b then reach else 0)
-  where_so test true reach is = same_tests nodes test (λ v. (test v && true) || false) reach (λ v. with_true (test v)) is
-  where_so test false reach is = same_tests nodes (λ v. false) (λ v. (test v && false) || false) 0 (λ v. with_false (test v)) (empty_mask nodes)
+  where_so : (test : ℕ → Bool) (b : Bool) (reach : ℕ) → IsMaskAmong test nodes among reach
+      → IsMaskAmong (λ v. (test v && b) || false) nodes among (if b then reach else 0)
+  where_so test true reach is = same_among nodes test (λ v. (test v && true) || false) among reach (λ v. with_true (test v)) is
+  where_so test false reach is = same_among nodes (λ v. false) (λ v. (test v && false) || false) among 0 (λ v. with_false (test v)) (none_among nodes among)
 
-  pub one_comes : (r : Rival) (reach : ℕ) → IsMask (λ v. reaches lines v r) nodes reach → IsBrought lines nodes (r ∷ []) (brought_by r reach)
+  pub one_comes : (r : Rival) (reach : ℕ) → IsMaskAmong (λ v. reaches lines v r) nodes among reach → IsBrought lines nodes among (r ∷ []) (brought_by r reach)
   one_comes r reach is = record {
     mixed = where_so (λ v. reaches lines v r) (not r.same) reach is;
-    spoiled = same_tests nodes (λ v. (reaches lines v r && (r.same && not r.in_time)) || false) (λ v. ((reaches lines v r && r.same) && not r.in_time) || false)
-        (if r.same && not r.in_time then reach else 0)
+    spoiled = same_among nodes (λ v. (reaches lines v r && (r.same && not r.in_time)) || false) (λ v. ((reaches lines v r && r.same) && not r.in_time) || false)
+        among (if r.same && not r.in_time then reach else 0)
         (λ v. three (reaches lines v r) r.same (not r.in_time)) (where_so (λ v. reaches lines v r) (r.same && not r.in_time) reach is);
     same = where_so (λ v. reaches lines v r) r.same reach is;
   }
 
   -- a rival of this station, by the reach of its node
   pub rival_comes : (p : Numbers) (x y : Sending) (st : Station) (r : Rival) (reach : ℕ) → IsPlaceOf nodes st.place st.node → Some r ≡ rival_to p x st y
-      → IsMask (λ v. passes_at lines r.key (get_or nodes st.place 0) v) nodes reach
-      → IsBrought lines nodes (option_to_list (rival_to p x st y)) (brought_by r reach)
+      → IsMaskAmong (λ v. passes_at lines r.key (get_or nodes st.place 0) v) nodes among reach
+      → IsBrought lines nodes among (option_to_list (rival_to p x st y)) (brought_by r reach)
   rival_comes p x y st r reach placed is reach_is =
       let node : r.node ≡ st.node = of_sender ((y.rank == x.rank) && overlaps x y) _ r (sym is) in
-      subst (λ (o : Option Rival). IsBrought lines nodes (option_to_list o) (brought_by r reach)) is
-      (one_comes r reach (subst (λ (n : ℕ). IsMask (λ v. passes_at lines r.key n v) nodes reach) (placed.there ∙ sym node) reach_is))
+      subst (λ (o : Option Rival). IsBrought lines nodes among (option_to_list o) (brought_by r reach)) is
+      (one_comes r reach (subst (λ (n : ℕ). IsMaskAmong (λ v. passes_at lines r.key n v) nodes among reach) (placed.there ∙ sym node) reach_is))
 
 same_any : {X Y : Type 0} (f : X → Option Y) (t u : Y → Bool) (xs : List X) → ((x : X) (y : Y) → f x ≡ Some y → t y ≡ u y)
     → list_any t (filter_map f xs) ≡ list_any u (filter_map f xs)

@@ -7,9 +7,9 @@ use Rattle.std.proofs.lemmas.Bool.{cond-true, false_from_ne_true}
 use Rattle.std.specs.List.{list_any}
 use Rattle.std.proofs.lemmas.List.{get_or_default}
 use Rattle.lwb_base.specs.Profile.{Numbers}
-use Rattle.link_trace.specs.Masks.{IsMask}
+use Rattle.link_trace.specs.Masks.{IsMaskAmong}
 use Rattle.link_trace.specs.Passes.{Lines}
-use Rattle.link_trace.proofs.MaskBits.{empty_mask, same_tests}
+use Rattle.link_trace.proofs.MaskBits.{none_among, same_among}
 use Rattle.radio_model.specs.Hearing.{Meets}
 use Rattle.radio_model.specs.Stations.{on_air, overlaps}
 use Rattle.radio_model.specs.Marks.{IsMark, IsAlike, IsNewest, is_aside, comes_early}
@@ -143,11 +143,11 @@ module _ (p : Numbers) (x : Sending) (st : Station) (mk : Mark) (origin : Origin
       let two = and_parts (reaches lines v r.0) r.0.same parts.0 in
       sym (at_key lines v r.0 (known r.0 r.1)) ∙ two.0)
 
-  pub early_comes : (lines : Lines) (nodes : List ℕ) (reach : ℕ) → IsMask (λ v. passes_at lines (key_of p x) st.node v) nodes reach
-      → IsCrowd lines nodes (rivals_in p x st) (record { mixed = 0; spoiled = reach })
-  early_comes lines nodes reach reach_is = record {
-    mixed = same_tests nodes (λ v. false) (λ v. list_any (differs lines v) (rivals_in p x st)) 0
-        (λ v. sym (all_same lines v (rivals_in p x st) (λ r there. (known r there).same_is))) (empty_mask nodes);
-    spoiled = same_tests nodes (λ v. passes_at lines (key_of p x) st.node v) (λ v. list_any (spoils lines v) (rivals_in p x st)) reach
+  pub early_comes : (lines : Lines) (nodes : List ℕ) (among reach : ℕ) → IsMaskAmong (λ v. passes_at lines (key_of p x) st.node v) nodes among reach
+      → IsCrowd lines nodes among (rivals_in p x st) (record { mixed = 0; spoiled = reach })
+  early_comes lines nodes among reach reach_is = record {
+    mixed = same_among nodes (λ v. false) (λ v. list_any (differs lines v) (rivals_in p x st)) among 0
+        (λ v. sym (all_same lines v (rivals_in p x st) (λ r there. (known r there).same_is))) (none_among nodes among);
+    spoiled = same_among nodes (λ v. passes_at lines (key_of p x) st.node v) (λ v. list_any (spoils lines v) (rivals_in p x st)) among reach
         (reaching lines) reach_is;
   }

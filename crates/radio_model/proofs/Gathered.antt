@@ -1,16 +1,16 @@
 -- What stations bring to nodes, gathered bit by bit: of one station more, and of all but those from which nothing comes.
-use Rattle.std.proofs.Common.{◌≡◌, ◌≢◌, ℕ, ◌<◌, ◌≤◌, ◌-◌, ◌⊎◌, inl, inr, max, min, [], List, length, get_or, Bool, true, false, not, ◌&&◌, ◌+◌}
-use Rattle.std.proofs.Common.{nat_lt, if◌then◌else◌, bit_and, bit_or, All, refl, sym, ◌∙◌, ap, subst, arith}
-use Rattle.std.proofs.lemmas.Bool.Decides.{nat_tests}
-use Rattle.std.proofs.lemmas.Bool.{cases_eq, lt-ltb, both_ways, false_from_ne_true}
+use Rattle.std.proofs.Common.{◌≡◌, ◌≢◌, ℕ, ◌<◌, ◌≤◌, ◌-◌, ◌⊎◌, inl, inr, max, min, [], List, length, get_or, Bool, true, false, not, ◌+◌}
+use Rattle.std.proofs.Common.{bit_and, bit_or, All, refl, sym, ◌∙◌, ap, subst, arith}
+use Rattle.std.proofs.lemmas.Bool.{cases_eq, both_ways, false_from_ne_true}
 use Rattle.std.proofs.lemmas.Nat.Bits.{bit_at_or, bit_at_and, bit_at-lt}
 use Rattle.std.specs.Int.{bit_at}
 use Rattle.std.specs.List.{list_any}
 use Rattle.std.proofs.lemmas.List.{get_or_default}
 use Rattle.lwb_base.specs.declared.limits.TheConstants.{MOST_NODES}
 use Rattle.lwb_base.specs.Profile.{Numbers}
-use Rattle.link_trace.specs.Masks.{IsMask}
+use Rattle.link_trace.specs.Masks.{HasAll}
 use Rattle.link_trace.specs.Passes.{Lines, passes}
+use Rattle.link_trace.proofs.MaskBits.{set_among, unset_among}
 use Rattle.radio_model.specs.Marks.{AreMarks, AreAlikeTo, comes_close, no_mark}
 use Rattle.radio_model.specs.Meetings.{rivals_in, rivals_to, differs, spoils, passes_at, key_of, IsCrowd, IsInOneFrame, IsPlaceOf, both_crowds}
 use Rattle.radio_model.specs.Meetings.{IsFrom, AddsTo, HasBitsOf, TellsAt, IsNear, AreThose}
@@ -25,20 +25,6 @@ use Rattle.radio_model.specs.declared.station.Station.{Station}
 use Rattle.lwb_base.proofs.Elements.{any_of, some_of, in_flat, from_flat}
 use Rattle.radio_model.proofs.Close.{close_same, close_harmless}
 use Rattle.radio_model.proofs.RestOfPlaces.{InOrder, bit_cases}
-
-set_so : (b c : Bool) → ◌≡◌ {A = ℕ} (if b && c then 1 else 0) 1 → c ≡ true
-set_so b c is = grind (arith, nat_tests)
-
-unset_so : (b c : Bool) → b ≡ true → ◌≡◌ {A = ℕ} (if b && c then 1 else 0) 0 → c ≡ false
-unset_so b c inside is = grind (arith, nat_tests)
-
--- what a bit of a mask tells
-module _ (nodes : List ℕ) (test : ℕ → Bool) (mask : ℕ) (is : IsMask test nodes mask) (i : ℕ) where
-  pub if_set : bit_at mask i ≡ 1 → test (get_or nodes i 0) ≡ true
-  if_set one = set_so (nat_lt i (length nodes)) (test (get_or nodes i 0)) (sym (is i) ∙ one)
-
-  pub if_unset : i < length nodes → bit_at mask i ≡ 0 → test (get_or nodes i 0) ≡ false
-  if_unset inside none = unset_so (nat_lt i (length nodes)) (test (get_or nodes i 0)) (lt-ltb i (length nodes) inside) (sym (is i) ∙ none)
 
 either_one : (a b : ℕ) → a < 2 → b < 2 → max a b ≡ 1 → (a ≡ 1) ⊎ (b ≡ 1)
 either_one a b a_small b_small is = elim (bit_cases a a_small) [ inl none ↦ inr (omega (arith, is, none)) | inr one ↦ inl one ]
@@ -86,7 +72,7 @@ module _ (lines : Lines) (nodes : List ℕ) (p : Numbers) (x : Sending) (sts : L
   pub tells_all : (i : ℕ) (c : Crowd) → ((k : ℕ) (d : Station) → k < length sts → HasBitsOf lines nodes (rivals_in p x (get_or sts k d)) i c)
       → HasBitsOf lines nodes all i c
   tells_all i c each = record {
-    mixed = λ none. none_in (differs lines (get_or nodes i 0)) (λ k d below. (each k d below).mixed none);
+    mixed = λ clean none. none_in (differs lines (get_or nodes i 0)) (λ k d below. (each k d below).mixed clean none);
     spoiled = λ none. none_in (spoils lines (get_or nodes i 0)) (λ k d below. (each k d below).spoiled none);
   }
 
@@ -94,20 +80,21 @@ module _ (lines : Lines) (nodes : List ℕ) (p : Numbers) (x : Sending) (sts : L
   adds_none c = record { mixed = λ i none. none; spoiled = λ i none. none }
 
   -- with a station more
-  module _ (k : ℕ) (st : Station) (below : k < length sts) (at : st ≡ get_or sts k st) (a b : Crowd) (is : IsCrowd lines nodes (rivals_in p x st) b) where
+  module _ (k : ℕ) (st : Station) (below : k < length sts) (at : st ≡ get_or sts k st) (among : ℕ) (a b : Crowd)
+      (is : IsCrowd lines nodes among (rivals_in p x st) b) where
     pub from_more : IsFrom lines nodes all a → IsFrom lines nodes all (both_crowds a b)
     from_more was = record {
       mixed = λ i one. elim (either_bit a.mixed b.mixed i one) [
         | inl old ↦ was.mixed i old
         | inr new ↦
             from_one k st (differs lines (get_or nodes i 0)) below at
-            (if_set nodes (λ v. list_any (differs lines v) (rivals_in p x st)) b.mixed is.mixed i new)
+            (set_among nodes (λ v. list_any (differs lines v) (rivals_in p x st)) among b.mixed is.mixed i new)
       ];
       spoiled = λ i one. elim (either_bit a.spoiled b.spoiled i one) [
         | inl old ↦ was.spoiled i old
         | inr new ↦
             from_one k st (spoils lines (get_or nodes i 0)) below at
-            (if_set nodes (λ v. list_any (spoils lines v) (rivals_in p x st)) b.spoiled is.spoiled i new)
+            (set_among nodes (λ v. list_any (spoils lines v) (rivals_in p x st)) among b.spoiled is.spoiled i new)
       ];
     }
 
@@ -117,23 +104,28 @@ module _ (lines : Lines) (nodes : List ℕ) (p : Numbers) (x : Sending) (sts : L
       spoiled = λ i none. was.spoiled i (neither_bit a.spoiled b.spoiled i none).0;
     }
 
-    tells_one : (i : ℕ) (d : Station) → i < length nodes → HasBitsOf lines nodes (rivals_in p x (get_or sts k d)) i (both_crowds a b)
-    tells_one i d inside =
+    tells_one : (ready i : ℕ) (d : Station) → ((j : ℕ) → bit_at ready j ≡ 1 → bit_at a.spoiled j ≡ 0 → bit_at among j ≡ 1) → i < length nodes
+        → bit_at ready i ≡ 1 → HasBitsOf lines nodes (rivals_in p x (get_or sts k d)) i (both_crowds a b)
+    tells_one ready i d asked inside one =
         subst (λ (s : Station). HasBitsOf lines nodes (rivals_in p x s) i (both_crowds a b)) (at ∙ get_or_default sts k st d below) (record {
-          mixed = λ none. if_unset nodes (λ v. list_any (differs lines v) (rivals_in p x st)) b.mixed is.mixed i inside (neither_bit a.mixed b.mixed i none).1;
-          spoiled = λ none. if_unset nodes (λ v. list_any (spoils lines v) (rivals_in p x st)) b.spoiled is.spoiled i inside
-              (neither_bit a.spoiled b.spoiled i none).1;
+          mixed = λ clean none. unset_among nodes (λ v. list_any (differs lines v) (rivals_in p x st)) among b.mixed is.mixed i inside
+              (asked i one (neither_bit a.spoiled b.spoiled i clean).0) (neither_bit a.mixed b.mixed i none).1;
+          spoiled = λ none.
+              let both = neither_bit a.spoiled b.spoiled i none in
+              unset_among nodes (λ v. list_any (spoils lines v) (rivals_in p x st)) among b.spoiled is.spoiled i inside (asked i one both.0) both.1;
         })
 
-    pub tells_more : (places rest new : ℕ) → ((j : ℕ) → j ≢ k → bit_at new j ≡ bit_at rest j)
-        → TellsAt lines nodes p x sts (λ j. (bit_at places j ≡ 1) × (bit_at rest j ≡ 0)) a
-        → TellsAt lines nodes p x sts (λ j. (bit_at places j ≡ 1) × (bit_at new j ≡ 0)) (both_crowds a b)
-    tells_more places rest new others was j i d inside done = elim (cases_eq j k) [
-      | inl here ↦ subst (λ (n : ℕ). HasBitsOf lines nodes (rivals_in p x (get_or sts n d)) i (both_crowds a b)) (sym here) (tells_one i d inside)
+    pub tells_more : (ready places rest new : ℕ) → ((j : ℕ) → bit_at ready j ≡ 1 → bit_at a.spoiled j ≡ 0 → bit_at among j ≡ 1)
+        → ((j : ℕ) → j ≢ k → bit_at new j ≡ bit_at rest j)
+        → TellsAt lines nodes p x sts ready (λ j. (bit_at places j ≡ 1) × (bit_at rest j ≡ 0)) a
+        → TellsAt lines nodes p x sts ready (λ j. (bit_at places j ≡ 1) × (bit_at new j ≡ 0)) (both_crowds a b)
+    tells_more ready places rest new asked others was j i d inside one done = elim (cases_eq j k) [
+      | inl here ↦
+          subst (λ (n : ℕ). HasBitsOf lines nodes (rivals_in p x (get_or sts n d)) i (both_crowds a b)) (sym here) (tells_one ready i d asked inside one)
       | inr other ↦
-          let old = was j i d inside (done.0, sym (others j other) ∙ done.1) in
+          let old = was j i d inside one (done.0, sym (others j other) ∙ done.1) in
           record {
-            mixed = λ none. old.mixed (neither_bit a.mixed b.mixed i none).0;
+            mixed = λ clean none. old.mixed (neither_bit a.spoiled b.spoiled i clean).0 (neither_bit a.mixed b.mixed i none).0;
             spoiled = λ none. old.spoiled (neither_bit a.spoiled b.spoiled i none).0;
           }
     ]
@@ -142,14 +134,14 @@ module _ (lines : Lines) (nodes : List ℕ) (p : Numbers) (x : Sending) (sts : L
 pub near_more : (lines : Lines) (key : Key) (nodes : List ℕ) (ready rest new place near mask : ℕ)
     → IsNear lines key nodes (λ i. (bit_at ready i ≡ 1) × (bit_at rest i ≡ 0)) near
     → ((i : ℕ) → i ≢ place → bit_at new i ≡ bit_at rest i)
-    → IsMask (λ from. passes lines key.frame key.slot key.counter from (get_or nodes place 0)) nodes mask
+    → HasAll (λ from. passes lines key.frame key.slot key.counter from (get_or nodes place 0)) nodes mask
     → IsNear lines key nodes (λ i. (bit_at ready i ≡ 1) × (bit_at new i ≡ 0)) (bit_or near mask)
 near_more lines key nodes ready rest new place near mask was others is i k to inside none =
     let both = neither_bit near mask k none in
     elim (cases_eq i place) [
       | inl here ↦
           ap (λ (n : ℕ). passes_at lines key (get_or nodes k 0) (get_or nodes n 0)) here
-          ∙ if_unset nodes (λ from. passes lines key.frame key.slot key.counter from (get_or nodes place 0)) mask is k inside both.1
+          ∙ is k inside both.1
       | inr other ↦ was i k (to.0, sym (others i other) ∙ to.1) inside both.0
     ]
 
@@ -157,7 +149,7 @@ near_more lines key nodes ready rest new place near mask was others is i k to in
 pub tells_more_of : (lines : Lines) (nodes : List ℕ) (rs : List Rival) (i : ℕ) (old new : Crowd) → AddsTo old new → HasBitsOf lines nodes rs i old
     → HasBitsOf lines nodes rs i new
 tells_more_of lines nodes rs i old new adds was = record {
-  mixed = λ none. was.mixed (adds.mixed i none);
+  mixed = λ clean none. was.mixed (adds.spoiled i clean) (adds.mixed i none);
   spoiled = λ none. was.spoiled (adds.spoiled i none);
 }
 
@@ -171,7 +163,7 @@ module _ (lines : Lines) (nodes : List ℕ) (p : Numbers) (x : Sending) (sts : L
     (those : (d : Mark) → AreThose (λ k. not (comes_close opens (x.start + delta) x origin (get_or mks k d))) far strange) (c : Crowd) where
   no_rivals : (rs : List Rival) → rs ≡ [] → HasBitsOf lines nodes rs i c
   no_rivals rs is = record {
-    mixed = λ none. ap (list_any (differs lines (get_or nodes i 0))) is;
+    mixed = λ clean none. ap (list_any (differs lines (get_or nodes i 0))) is;
     spoiled = λ none. ap (list_any (spoils lines (get_or nodes i 0))) is;
   }
 
@@ -193,7 +185,7 @@ module _ (lines : Lines) (nodes : List ℕ) (p : Numbers) (x : Sending) (sts : L
       let cut : passes_at lines (key_of p x) st.node (get_or nodes i 0) ≡ false =
       ap (λ (n : ℕ). passes_at lines (key_of p x) n (get_or nodes i 0)) (sym node) ∙ no_link k (omega (arith, at.below, place)) not_near in
       record {
-        mixed = λ unset. close_same p x st mk origin opens delta is stands starts by so lines (get_or nodes i 0);
+        mixed = λ clean unset. close_same p x st mk origin opens delta is stands starts by so lines (get_or nodes i 0);
         spoiled = λ unset. close_harmless p x st mk origin opens delta is stands starts by so lines (get_or nodes i 0) cut;
       }
     where

@@ -7,7 +7,7 @@ use Rattle.std.proofs.lemmas.Nat.Bits.{bit_at-zero, bit_at-lt}
 use Rattle.std.specs.Int.{bit_at}
 use Rattle.std.specs.List.{cons_option}
 use Rattle.lwb_base.specs.declared.limits.TheConstants.{MOST_NODES}
-use Rattle.link_trace.specs.Masks.{IsMask}
+use Rattle.link_trace.specs.Masks.{IsMaskAmong}
 use Rattle.link_trace.specs.Passes.{Lines}
 use Rattle.radio_model.specs.Meetings.{reception_pair, is_heard}
 use Rattle.radio_model.specs.OnAir.{Sending}
@@ -17,15 +17,16 @@ use Rattle.radio_model.specs.declared.station.Station.{Station}
 use Rattle.radio_model.proofs.RestOfPlaces.{InOrder, next_one, same_filter, bit_cases}
 
 -- a bit of a mask is of one of the nodes
-pub of_node : (nodes : List ℕ) (test : ℕ → Bool) (mask k : ℕ) → IsMask test nodes mask → bit_at mask k ≡ 1 → k < length nodes
-of_node nodes test mask k is one = elim (cases_lt k (length nodes)) [
+pub of_node : (nodes : List ℕ) (test : ℕ → Bool) (among mask k : ℕ) → IsMaskAmong test nodes among mask → bit_at mask k ≡ 1 → k < length nodes
+of_node nodes test among mask k is one = elim (cases_lt k (length nodes)) [
   | inl below ↦ below
-  | inr past ↦ absurd (omega (arith, one, is k ∙ none (nat_lt k (length nodes)) (test (get_or nodes k 0)) (le-ltb k (length nodes) past)))
+  | inr past ↦ absurd (omega (arith, one, is k ∙ none (bit_at among k == 1) (nat_lt k (length nodes)) (test (get_or nodes k 0)) (le-ltb k (length nodes) past)))
 ]
   where
-    none : (b c : Bool) → b ≡ false → ◌≡◌ {A = ℕ} (if b && c then 1 else 0) 0
-    none false c is = refl
-    none true c is = absurd (true≢false is)
+    none : (a b c : Bool) → b ≡ false → ◌≡◌ {A = ℕ} (if a && (b && c) then 1 else 0) 0
+    none false b c is = refl
+    none true false c is = refl
+    none true true c is = absurd (true≢false is)
 
 -- a place that is reached and not spoiled, and one that is not
 pub left_one : (r s : ℕ) → r < 2 → s < 2 → min r (1 - s) ≡ 1 → (r ≡ 1) × (s ≡ 0)

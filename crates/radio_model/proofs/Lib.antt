@@ -34,6 +34,7 @@ pub mod BegunOrigins
 pub mod RestOfPlaces
 pub mod HeardInTurn
 pub mod RecentPlaces
+pub mod NextToEnding
 pub mod EndedSendings
 pub mod Reaching
 pub mod SendingAtPlace

@@ -1,7 +1,7 @@
 -- Whose transmissions can matter, through the changes of a medium.
 use Rattle.std.proofs.Common.{◌≡◌, ◌≢◌, ℕ, ◌+◌, ◌<◌, ◌≤◌, inl, inr, List, length, set, get_or, Bool, true, false, not, ◌==◌, ◌&&◌, nat_lt, if◌then◌else◌}
-use Rattle.std.proofs.Common.{nat_le, Option, Some, None, is_some, refl, sym, ◌∙◌, ap, subst, arith}
-use Rattle.std.proofs.lemmas.Bool.{cases_lt, cases_eq, le-leb, leb-true, lt-ltb, le-ltb, or_left, cond-true, cond-false, and_parts, and_from, false≢true}
+use Rattle.std.proofs.Common.{min, Option, Some, None, is_some, refl, sym, ◌∙◌, ap, subst, arith}
+use Rattle.std.proofs.lemmas.Bool.{cases_lt, cases_eq, lt-ltb, le-ltb, cond-true, cond-false, and_parts, false≢true}
 use Rattle.std.proofs.lemmas.Bool.Decides.{nat_tests}
 use Rattle.std.proofs.lemmas.List.{length-map, length-set, get_or-set_same, get_or-set_other}
 use Rattle.std.proofs.lemmas.List.Elements.{Contains-append_right, All-contains}
@@ -11,8 +11,8 @@ use Rattle.std.specs.Int.{bit_at}
 use Rattle.lwb_base.specs.Profile.{Numbers, airtime}
 use Rattle.radio_model.specs.Stations.{on_air, begins_on, id_of_station, station_after_start, current_or_next, next_sending}
 use Rattle.radio_model.specs.Stations.{stations_from}
-use Rattle.radio_model.specs.Marks.{AreMarks, no_mark, next_mark, next_marks, comes_close, is_same}
-use Rattle.radio_model.specs.Recent.{AreRecent, AreAmong, IsOneOf, IsRecentAfter, no_recent, is_of, is_joined, is_close_by}
+use Rattle.radio_model.specs.Marks.{AreMarks, no_mark, next_mark, next_marks}
+use Rattle.radio_model.specs.Recent.{AreRecent, IsOneOf, IsRecentAfter, no_recent, is_of, is_joined}
 use Rattle.radio_model.specs.declared.mark.Mark.{Mark}
 use Rattle.radio_model.specs.declared.mark.Origin.{Origin}
 use Rattle.radio_model.specs.declared.tuning.Tuned.{Tuned}
@@ -20,7 +20,6 @@ use Rattle.radio_model.specs.declared.recent.Recent.{Recent}
 use Rattle.radio_model.specs.declared.sending.Sending.{Sending}
 use Rattle.radio_model.specs.declared.station.Station.{Station}
 use Rattle.radio_model.proofs.Alike.{origin_from}
-use Rattle.radio_model.proofs.Marked.{no_rivals_aside}
 use Rattle.lwb_base.proofs.Elements.{of_option}
 use Rattle.radio_model.proofs.BegunOrigins.{can_start, can't_start}
 use Rattle.radio_model.proofs.Places.{nodes_from}
@@ -30,41 +29,6 @@ no_origin o is = cc
 
 unset : (n : ℕ) → n < 2 → not (n == 1) ≡ true → n ≡ 0
 unset n small is = grind (arith, nat_tests)
-
--- by the marks, those that have one origin come close to what runs
-pub close_recent : (now : ℕ) (sts : List Station) (mks : List Mark) (r : Recent) → AreRecent now sts mks r → (i : ℕ) (d : Station) (x : Sending)
-    → i < length sts → (get_or sts i d).sending ≡ Some x → (origin : Origin) (opens latest : ℕ) → is_close_by r origin opens latest ≡ true
-    → (k : ℕ) (e : Mark) → bit_at r.places k ≡ 1 → comes_close opens latest x origin (get_or mks k e) ≡ true
-close_recent now sts mks r are i d x below runs origin opens latest so k e one =
-    let parts = and_parts (is_of r.origin origin && nat_le opens r.since) (nat_le r.newest latest) so in
-    let two = and_parts (is_of r.origin origin) (nat_le opens r.since) parts.0 in
-    let since = are.running i d x below runs in
-    by r.origin refl two.0 since (leb-true opens r.since two.1) (leb-true r.newest latest parts.1)
-  where
-    by : (q : Option Origin) → r.origin ≡ q → is_of q origin ≡ true → r.since ≤ x.start → opens ≤ r.since → r.newest ≤ latest
-        → comes_close opens latest x origin (get_or mks k e) ≡ true
-    by None is so since early most = absurd (false≢true so)
-    by (Some o) is so since early most =
-        let mk = get_or mks k e in
-        let at = are.close o is k e one in
-        and_from (nat_le mk.before x.start && is_same mk.origin origin) (nat_le opens mk.start && nat_le mk.start latest)
-        (and_from (nat_le mk.before x.start) (is_same mk.origin origin) (le-leb mk.before x.start (omega (arith, at.before, since)))
-        (ap (λ (a : Origin). is_same a origin) at.origin_is ∙ so))
-        (and_from (nat_le opens mk.start) (nat_le mk.start latest) (le-leb opens mk.start (omega (arith, at.from, early)))
-        (le-leb mk.start latest (omega (arith, at.until, most))))
-
--- the rivals of what a station sends are at the places of these
-pub among_recent : (p : Numbers) (now : ℕ) (sts : List Station) (mks : List Mark) (r : Recent) → AreMarks sts mks → AreRecent now sts mks r
-    → (i : ℕ) (d : Station) (x : Sending) → i < length sts → (get_or sts i d).sending ≡ Some x
-    → AreAmong p x sts r.places
-among_recent p now sts mks r marks are i d x below runs = record {
-  within = are.within;
-  others = λ k e inside none.
-      let mk = get_or mks k no_mark in
-      let over : mk.end ≤ x.start = omega (arith, are.others k no_mark inside none, are.running i d x below runs) in
-      no_rivals_aside p x (get_or sts k e) mk (marks.each k e no_mark inside) (or_left (nat_le mk.end x.start)
-      (nat_le mk.before x.start && nat_le x.end mk.start) (le-leb mk.end x.start over));
-}
 
 -- a station changed, and began nothing
 pub recent_stay : (now t : ℕ) (sts : List Station) (mks : List Mark) (r : Recent) (i : ℕ) (old new : Station) → i < length sts → old ≡ get_or sts i old
@@ -82,6 +46,8 @@ recent_stay now t sts mks r i old new below at back later are = record {
   others = λ k e inside. are.others k e (omega (arith, inside, length-set sts i new));
   within = λ k one. omega (arith, are.within k one, length-set sts i new);
   latest = λ k e inside. are.latest k e (omega (arith, inside, length-set sts i new));
+  starts_by = are.starts_by;
+  ends_from = are.ends_from;
   close = are.close;
 }
 
@@ -208,6 +174,19 @@ module _ (now t : ℕ) (sts : List Station) (mks : List Mark) (r s : Recent) (i 
           others = over_by s.since (λ k e inside other none. omega (arith, over, begun_now, are.latest k e inside));
           within = inside_all (λ k other one. absurd (omega (arith, one, alone k other)));
           latest = latest_all;
+          starts_by = λ k e one. elim (cases_eq k i) [
+            | inl here ↦ omega (arith, ap (λ (m : Mark). m.start) (new_mark k e here), begun, is.newest)
+            | inr other ↦ absurd (omega (arith, one, alone k other))
+          ];
+          ends_from = λ k e one. elim (cases_eq k i) [
+            | inl here ↦ omega (
+              arith,
+              ap (λ (m : Mark). m.end) (new_mark k e here),
+              is.soonest,
+              cond-true (nat_lt r.latest t) mk.end (min r.soonest mk.end) (lt-ltb r.latest t over),
+            )
+            | inr other ↦ absurd (omega (arith, one, alone k other))
+          ];
           close = λ o said k e one. elim (cases_eq k i) [
             | inl here ↦
                 subst (IsOneOf o s.since s.newest) (new_mark k e here)
@@ -218,6 +197,8 @@ module _ (now t : ℕ) (sts : List Station) (mks : List Mark) (r s : Recent) (i 
         }
     | inr not ↦
         let same_since : s.since ≡ r.since = is.since ∙ cond-false (nat_lt r.latest t) t r.since (le-ltb r.latest t not) in
+        let same_soonest : s.soonest ≡ min r.soonest mk.end =
+        is.soonest ∙ cond-false (nat_lt r.latest t) mk.end (min r.soonest mk.end) (le-ltb r.latest t not) in
         let kept : (k : ℕ) → k ≢ i → bit_at s.places k ≡ bit_at r.places k = λ k other.
         is.others k other ∙ ap (λ (n : ℕ). bit_at n k) (cond-false (nat_lt r.latest t) 0 r.places (le-ltb r.latest t not)) in
         record {
@@ -228,6 +209,21 @@ module _ (now t : ℕ) (sts : List Station) (mks : List Mark) (r s : Recent) (i 
           others = over_by s.since (λ k e inside other none. omega (arith, same_since, are.others k e inside (sym (kept k other) ∙ none)));
           within = inside_all (λ k other one. are.within k (sym (kept k other) ∙ one));
           latest = latest_all;
+          starts_by = λ k e one. elim (cases_eq k i) [
+            | inl here ↦ omega (arith, ap (λ (m : Mark). m.start) (new_mark k e here), begun, is.newest)
+            | inr other ↦ omega (
+              arith,
+              ap (λ (m : Mark). m.start) (mark_at k e other),
+              are.starts_by k e (sym (kept k other) ∙ one),
+              is.newest,
+              are.newest_by_now,
+              later,
+            )
+          ];
+          ends_from = λ k e one. elim (cases_eq k i) [
+            | inl here ↦ omega (arith, ap (λ (m : Mark). m.end) (new_mark k e here), same_soonest)
+            | inr other ↦ omega (arith, ap (λ (m : Mark). m.end) (mark_at k e other), are.ends_from k e (sym (kept k other) ∙ one), same_soonest)
+          ];
           close = λ o said k e one.
               let join = joined r i mk.origin o (sym (cond-false (nat_lt r.latest t) (Some mk.origin) _ (le-ltb r.latest t not)) ∙ sym is.origin ∙ said) in
               elim (cases_eq k i) [
@@ -273,6 +269,8 @@ recent_first vs mks none = record {
   others = λ k e inside bit. none k e (omega (arith, inside, long));
   within = λ k one. absurd (omega (arith, one, bit_at-zero k));
   latest = λ k e inside. none k e (omega (arith, inside, long));
+  starts_by = λ k e one. absurd (omega (arith, one, bit_at-zero k));
+  ends_from = λ k e one. absurd (omega (arith, one, bit_at-zero k));
   close = λ o said k e one. absurd (omega (arith, one, bit_at-zero k));
 }
   where

@@ -1,12 +1,13 @@
 -- A transmission that ends, with what the medium knows of it.
 use Rattle.std.specs.Prelude.{◌≡◌, ℕ, ◌+◌, true, ◌<◌, ◌≤◌, ◌^◌, All, List, length, map, slice_index_or}
 use Rattle.std.specs.Int.{bit_at}
+use Rattle.std.specs.List.{list_any}
 use Rattle.lwb_base.specs.declared.limits.TheConstants.{MOST_NODES}
 use Rattle.radio_model.specs.Ages.{IsAged}
 use Rattle.radio_model.specs.Marks.{AreMarks, AreAlikeTo, comes_close}
 use Rattle.radio_model.specs.Meetings.{key_of, rivals_in, rivals_to, IsInOneFrame, IsPlaceOf}
 use Rattle.radio_model.specs.Recent.{AreAmong}
-use Rattle.radio_model.specs.Stations.{id_of_station}
+use Rattle.radio_model.specs.Stations.{id_of_station, on_air, overlaps}
 use Rattle.radio_model.specs.declared.ending.Ending.{Ending}
 use Rattle.radio_model.specs.declared.mark.Mark.{Mark}
 use Rattle.radio_model.specs.declared.rivals.Rival.{Rival}
@@ -35,6 +36,9 @@ pub record IsEnding (nodes : List ℕ) (e : Ending) : Type 0 where
   pub aged : All (λ st. IsAged e.x.now.end st.ended.items) e.stations.now
   pub marks : AreMarks e.stations.now e.marks.now
   pub alike : AreAlikeTo e.stations.now e.marks.now e.origin e.x.now
+  -- those that it knows to be busy send next to x
+  pub busy : (k : ℕ) (d : Station) → k < length e.stations.now → bit_at e.busy k ≡ 1
+      → list_any (overlaps e.x.now) (on_air (slice_index_or e.stations.now k d)) ≡ true
   -- the rivals are at its places, and by their marks they come close, if that is said
   pub among : AreAmong e.profile.now e.x.now e.stations.now e.places
   pub close_by : e.close ≡ true → (k : ℕ) (d : Mark) → bit_at e.places k ≡ 1

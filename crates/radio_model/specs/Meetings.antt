@@ -8,7 +8,7 @@ use Rattle.std.specs.Int.RustNames.{bit_or}
 use Rattle.lwb_base.specs.Profile.{Numbers}
 use Rattle.link_trace.specs.Passes.{Lines, passes}
 use Rattle.link_trace.specs.Passes.{captured}
-use Rattle.link_trace.specs.Masks.{IsMask}
+use Rattle.link_trace.specs.Masks.{IsMaskAmong}
 use Rattle.radio_model.specs.Stations.{on_air, overlaps, covers}
 use Rattle.radio_model.specs.declared.sending.Sending.{Sending}
 use Rattle.radio_model.specs.declared.station.Station.{Station}
@@ -92,11 +92,11 @@ pub record IsPlaceOf (nodes : List ℕ) (place node : ℕ) : Type 0 where
   pub below : place < length nodes
   pub there : slice_index nodes place ≡ node
 
--- to which nodes these rivals bring what, by masks
-pub record IsBrought (lines : Lines) (nodes : List ℕ) (rs : List Rival) (b : Brought) : Type 0 where
-  pub mixed : IsMask (λ v. list_any (differs lines v) rs) nodes b.mixed
-  pub spoiled : IsMask (λ v. list_any (spoils lines v) rs) nodes b.spoiled
-  pub same : IsMask (λ v. list_any (repeats lines v) rs) nodes b.same
+-- to which of the nodes of a set these rivals bring what, by masks
+pub record IsBrought (lines : Lines) (nodes : List ℕ) (among : ℕ) (rs : List Rival) (b : Brought) : Type 0 where
+  pub mixed : IsMaskAmong (λ v. list_any (differs lines v) rs) nodes among b.mixed
+  pub spoiled : IsMaskAmong (λ v. list_any (spoils lines v) rs) nodes among b.spoiled
+  pub same : IsMaskAmong (λ v. list_any (repeats lines v) rs) nodes among b.same
 
 abbrev pub nothing_brought : Brought
 nothing_brought = record { mixed = 0; spoiled = 0; same = 0 }
@@ -112,10 +112,10 @@ brought_by r reach = record {
   same = if r.same then reach else 0;
 }
 
--- what they bring that keeps x from being received
-pub record IsCrowd (lines : Lines) (nodes : List ℕ) (rs : List Rival) (c : Crowd) : Type 0 where
-  pub mixed : IsMask (λ v. list_any (differs lines v) rs) nodes c.mixed
-  pub spoiled : IsMask (λ v. list_any (spoils lines v) rs) nodes c.spoiled
+-- what they bring that keeps nodes of a set from receiving x
+pub record IsCrowd (lines : Lines) (nodes : List ℕ) (among : ℕ) (rs : List Rival) (c : Crowd) : Type 0 where
+  pub mixed : IsMaskAmong (λ v. list_any (differs lines v) rs) nodes among c.mixed
+  pub spoiled : IsMaskAmong (λ v. list_any (spoils lines v) rs) nodes among c.spoiled
 
 abbrev pub no_crowd : Crowd
 no_crowd = record { mixed = 0; spoiled = 0 }
@@ -132,14 +132,15 @@ pub record IsFrom (lines : Lines) (nodes : List ℕ) (rs : List Rival) (c : Crow
   pub mixed : (i : ℕ) → bit_at c.mixed i ≡ 1 → list_any (differs lines (slice_index nodes i)) rs ≡ true
   pub spoiled : AreSpoiled lines nodes rs c.spoiled
 
--- what these rivals bring to node i has its bit
+-- what these rivals bring to node i has its bit: the same packet out of time, and if none comes so, another packet
 pub record HasBitsOf (lines : Lines) (nodes : List ℕ) (rs : List Rival) (i : ℕ) (c : Crowd) : Type 0 where
-  pub mixed : bit_at c.mixed i ≡ 0 → list_any (differs lines (slice_index nodes i)) rs ≡ false
+  pub mixed : bit_at c.spoiled i ≡ 0 → bit_at c.mixed i ≡ 0 → list_any (differs lines (slice_index nodes i)) rs ≡ false
   pub spoiled : bit_at c.spoiled i ≡ 0 → list_any (spoils lines (slice_index nodes i)) rs ≡ false
 
--- what the stations at these places bring to any node has its bit
-abbrev pub TellsAt : Lines → List ℕ → Numbers → Sending → List Station → (ℕ → Type 0) → Crowd → Type 0
-TellsAt lines nodes p x sts At c = (k i : ℕ) (d : Station) → i < length nodes → At k → HasBitsOf lines nodes (rivals_in p x (slice_index_or sts k d)) i c
+-- what the stations at these places bring to a node that is ready has its bit
+abbrev pub TellsAt : Lines → List ℕ → Numbers → Sending → List Station → ℕ → (ℕ → Type 0) → Crowd → Type 0
+TellsAt lines nodes p x sts ready At c =
+    (k i : ℕ) (d : Station) → i < length nodes → bit_at ready i ≡ 1 → At k → HasBitsOf lines nodes (rivals_in p x (slice_index_or sts k d)) i c
 
 -- no bit is lost
 pub record AddsTo (old new : Crowd) : Type 0 where

@@ -58,45 +58,47 @@ fn where_so(so: bool, nodes: NodeSet) -> NodeSet
     if so { nodes } else { NodeSet::EMPTY }
 }
 
-// What y, of this station, does to x while x is on the air: to which nodes it comes, and whether in time.
+// What y, of this station, does to x while x is on the air: to which of the nodes of `among` it comes, and whether in time.
 fn brought_with<M: Links>(
     links: &M,
     profile: &Profile,
     station: &Station,
     x: &Sending,
     y: &Sending,
+    among: NodeSet,
 ) -> Brought
     requires start { x.now.start ≤ 2 ^ 46 }
     requires end { x.now.end ≤ 2 ^ 46 }
     requires at { IsPlaceOf (M.nodes links.now) station.now.place station.now.node }
-    ensures { IsBrought (M.lines links.now) (M.nodes links.now) (option_to_list (rival_by profile.now x.now station.now y.now)) result }
+    ensures { IsBrought (M.lines links.now) (M.nodes links.now) among (option_to_list (rival_by profile.now x.now station.now y.now)) result }
 {
     match rival_to(profile, station, x, y) {
-        Some(rival) => Brought::by(&rival, reach_of(links, rival.key, station.place)),
+        Some(rival) => Brought::by(&rival, reach_of(links, rival.key, station.place, among)),
         None => Brought::none(),
     }
 }
 
-/// What this station sends while x is on the air.
+/// What this station sends while x is on the air, as it comes to the nodes of `among`.
 pub fn brought_from<M: Links>(
     links: &M,
     profile: &Profile,
     station: &Station,
     x: &Sending,
+    among: NodeSet,
 ) -> Brought
     requires start { x.now.start ≤ 2 ^ 46 }
     requires end { x.now.end ≤ 2 ^ 46 }
     requires by_end { ByEnd station.now.ended.items }
     requires at { IsPlaceOf (M.nodes links.now) station.now.place station.now.node }
-    ensures { IsBrought (M.lines links.now) (M.nodes links.now) (rivals_in profile.now x.now station.now) result }
+    ensures { IsBrought (M.lines links.now) (M.nodes links.now) among (rivals_in profile.now x.now station.now) result }
 {
     let mut brought = Brought::none();
     for i in first_after(station, x.start)..station.ended.len() {
         let y = ended_at(station, i);
-        brought = brought.with(brought_with(links, profile, station, x, y));
+        brought = brought.with(brought_with(links, profile, station, x, y, among));
     }
     match &station.sending {
-        Some(y) => brought.with(brought_with(links, profile, station, x, y)),
+        Some(y) => brought.with(brought_with(links, profile, station, x, y, among)),
         None => brought,
     }
 }

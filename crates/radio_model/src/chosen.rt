@@ -13,7 +13,7 @@ use crate::brought::brought_from;
 use crate::rivals::Key;
 use crate::sending::Sending;
 use crate::station::Station;
-use link_trace::Links;
+use link_trace::{Links, NodeSet};
 use lwb_base::{NodeId, Profile};
 
 /// Whether the sender that the trace names for the node at that key sends the packet of x, and that comes to the node.
@@ -62,5 +62,9 @@ fn sends_same<M: Links>(
     requires at { IsPlaceOf (M.nodes links.now) at.now.place at.now.node }
     ensures { result ≡ list_any (comes_from (M.lines links.now) at.now.node named) (rivals_in profile.now x.now station.now) }
 {
-    station.node == named && brought_from(links, profile, station, x).same.has(at.place)
+    let asked = NodeSet::EMPTY.with(at.place);
+    station.node == named
+        && brought_from(links, profile, station, x, asked)
+            .same
+            .has(at.place)
 }

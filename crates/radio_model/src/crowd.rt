@@ -51,12 +51,13 @@ impl Crowd {
     }
 }
 
-// What the station at that place brings that keeps x from being received. Mostly its mark tells that there is nothing, or that
+// What the station at that place brings that keeps the nodes of `among` from receiving x. Mostly its mark tells that there is nothing, or that
 // its packet is the one of x and comes before it.
-fn crowd_at<M: Links>(links: &M, ending: &Ending, place: u8) -> Crowd
+fn crowd_at<M: Links>(links: &M, ending: &Ending, place: u8, among: NodeSet) -> Crowd
     requires ending { IsEnding (M.nodes links.now) ending.now }
     requires place { place < length ending.now.stations.now }
-    ensures { (d : Station) → IsCrowd (M.lines links.now) (M.nodes links.now) (rivals_at ending.now (slice_index_or ending.now.stations.now place d)) result }
+    ensures { (d : Station) → IsCrowd (M.lines links.now) (M.nodes links.now) among
+        (rivals_at ending.now (slice_index_or ending.now.stations.now place d)) result }
 {
     let x = ending.x;
     let i = usize::from(place);
@@ -70,18 +71,18 @@ fn crowd_at<M: Links>(links: &M, ending: &Ending, place: u8) -> Crowd
     if mark.comes_early(x, station.node, ending.origin, ending.opens) {
         return Crowd {
             mixed: NodeSet::EMPTY,
-            spoiled: reach_of(links, ending.key, station.place),
+            spoiled: reach_of(links, ending.key, station.place, among),
         };
     }
-    let brought = brought_from(links, ending.profile, station, x);
+    let brought = brought_from(links, ending.profile, station, x, among);
     Crowd {
         mixed: brought.mixed,
         spoiled: brought.spoiled,
     }
 }
 
-// With what is known, what the stations at these places bring that keeps x from being received. None comes only where the
-// packet of x comes out of time to each node that is ready for it.
+// With what is known, what the stations at these places bring that keeps the nodes that are ready for x from receiving it. Each is
+// asked only for those to which the packet does not yet come out of time. None comes only where it does to each of them.
 fn crowd_with<M: Links>(
     links: &M,
     ending: &Ending,
@@ -95,7 +96,7 @@ fn crowd_with<M: Links>(
     ensures from { IfSome result (IsFrom (M.lines links.now) (M.nodes links.now) (rivals_of ending.now)) }
     ensures adds { IfSome result (AddsTo known) }
     ensures tells { IfSome result
-        (TellsAt (M.lines links.now) (M.nodes links.now) ending.now.profile.now ending.now.x.now ending.now.stations.now (λ k. bit_at places k ≡ 1)) }
+        (TellsAt (M.lines links.now) (M.nodes links.now) ending.now.profile.now ending.now.x.now ending.now.stations.now ready (λ k. bit_at places k ≡ 1)) }
     ensures none { IfNone result (AreSpoiled (M.lines links.now) (M.nodes links.now) (rivals_of ending.now) ready) }
 {
     let mut crowd = known;
@@ -103,7 +104,8 @@ fn crowd_with<M: Links>(
     while !rest.is_empty() {
         let place = rest.lowest();
         rest = rest.without(place);
-        let other = crowd_at(links, ending, place);
+        let asked = crowd.left_of(ready);
+        let other = crowd_at(links, ending, place, asked);
         crowd = crowd.with(other);
         if crowd.left_of(ready).is_empty() {
             return None;
@@ -112,7 +114,7 @@ fn crowd_with<M: Links>(
     Some(crowd)
 }
 
-// The places of the nodes from which a link passes at the key to one of those that are ready.
+// Places among which are all from which a link passes at the key to one of those that are ready.
 fn near_of<M: Links>(links: &M, key: Key, ready: NodeSet) -> NodeSet
     requires within { (i : ℕ) → bit_at ready i ≡ 1 → i < length (M.nodes links.now) }
     ensures { IsNear (M.lines links.now) key (M.nodes links.now) (λ i. bit_at ready i ≡ 1) result }
@@ -122,8 +124,8 @@ fn near_of<M: Links>(links: &M, key: Key, ready: NodeSet) -> NodeSet
     while !rest.is_empty() {
         let place = rest.lowest();
         rest = rest.without(place);
-        let from = links.from_mask(key.frame, key.slot, key.counter, place);
-        near = near.or(NodeSet::of_word(from));
+        let from = links.may_reach(key.frame, key.slot, key.counter, place);
+        near = near.or(from);
     }
     near
 }
@@ -154,7 +156,7 @@ fn strangers(
 }
 
 /// What keeps x from being received by the nodes that are ready for it. Returns `None` only if its packet comes out of time to
-/// each of these nodes. First come the stations from which a link passes to one of them. For the others a look at their marks
+/// each of these nodes. First come the stations from which a link may pass to one of them. For the others a look at their marks
 /// is mostly enough.
 pub fn crowd_of<M: Links>(links: &M, ending: &Ending, ready: NodeSet) -> Option<Crowd>
     requires ending { IsEnding (M.nodes links.now) ending.now }
@@ -188,9 +190,9 @@ pub fn crowd_of<M: Links>(links: &M, ending: &Ending, ready: NodeSet) -> Option<
     crowd_with(links, ending, strange, ready, crowd)
 }
 
-/// The nodes at which an earlier copy from the node that began the packet of x spoils x, as far as the mark of that node shows.
+/// Those of the nodes of `among` at which an earlier copy from the node that began the packet of x spoils x, as far as the mark of that node shows.
 /// Where many receive each other, these are nearly all.
-pub fn lost_early<M: Links>(links: &M, ending: &Ending) -> NodeSet
+pub fn lost_early<M: Links>(links: &M, ending: &Ending, among: NodeSet) -> NodeSet
     requires ending { IsEnding (M.nodes links.now) ending.now }
     ensures { AreSpoiled (M.lines links.now) (M.nodes links.now) (rivals_of ending.now) result }
 {
@@ -206,5 +208,5 @@ pub fn lost_early<M: Links>(links: &M, ending: &Ending) -> NodeSet
     {
         return NodeSet::EMPTY;
     }
-    reach_of(links, ending.key, station.place)
+    reach_of(links, ending.key, station.place, among)
 }

@@ -19,6 +19,8 @@ pub struct Ending<'a> {
     pub opens: u64,
     /// The places among which all its rivals are.
     pub places: NodeSet,
+    /// The places of nodes that are known to transmit next to it, and so do not receive it.
+    pub busy: NodeSet,
     /// What their marks show: all of these send the packet of x, once each, not before `opens` and in time after x.
     pub close: bool,
     /// All stations, by their places.

@@ -2,6 +2,7 @@
 
 ghost use Rattle.std.specs.Prelude.{◌≡◌, ◌<◌, All, length, ◌||◌, ◌==◌, not, ℕ, slice_index_or};
 ghost use Rattle.std.specs.List.{list_any};
+ghost use Rattle.lwb_base.specs.declared.limits.TheConstants.{MOST_NODES};
 ghost use Rattle.radio_model.specs.Stations.{on_air, overlaps};
 ghost use Rattle.radio_model.specs.Ages.{IsAged};
 ghost use Rattle.radio_model.specs.Endings.{IsEnding, rivals_of};
@@ -27,8 +28,8 @@ pub fn listeners<M: Links>(links: &M, ending: &Ending, from: &Station) -> Hearer
     requires from { IsPlaceOf (M.nodes links.now) from.now.place from.now.node }
     ensures { result ≡ hearers_to ending.now.profile.now (M.lines links.now) from.now.node ending.now.x.now ending.now.stations.now }
 {
-    let reached = reach_of(links, ending.key, from.place);
-    let lost = lost_early(links, ending);
+    let reached = reach_of(links, ending.key, from.place, idle(ending));
+    let lost = lost_early(links, ending, reached);
     let left = reached.except(lost);
     let ready = ready_of(ending.stations, ending.marks, left, ending.x);
     let Some(crowd) = crowd_of(links, ending, ready) else {
@@ -45,6 +46,13 @@ pub fn listeners<M: Links>(links: &M, ending: &Ending, from: &Station) -> Hearer
         }
     }
     hearers
+}
+
+// All but those that are known to transmit next to x.
+fn idle(ending: &Ending) -> NodeSet
+    ensures { (i : ℕ) → i < MOST_NODES → bit_at ending.now.busy i ≡ 0 → bit_at result i ≡ 1 }
+{
+    NodeSet::of_word(u64::MAX).except(ending.busy)
 }
 
 // Those of the nodes at these places that are tuned to the channel of x all the time and send nothing next to it.

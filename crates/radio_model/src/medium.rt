@@ -203,6 +203,7 @@ impl Medium {
             origin,
             opens,
             places: self.recent.places,
+            busy: self.recent.busy(x.start, x.end),
             close: self.recent.is_close(origin, opens, x.start + self.delta),
             stations: &self.stations,
             marks: &self.marks,

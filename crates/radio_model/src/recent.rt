@@ -2,20 +2,22 @@
 
 ghost use Rattle.std.specs.Prelude.{◌≡◌, ◌<◌, true, false};
 ghost use Rattle.lwb_base.specs.declared.limits.TheConstants.{MOST_NODES};
-ghost use Rattle.radio_model.specs.Recent.{no_recent, is_joined, is_close_by, is_of, IsRecentAfter};
+ghost use Rattle.radio_model.specs.Recent.{no_recent, is_joined, is_close_by, is_of, busy_with, IsRecentAfter};
 
 use crate::mark::Origin;
 use link_trace::NodeSet;
 
 /// The nodes whose transmissions may overlap one that still runs, by their places, and when all that was sent is over. What a node
 /// that is not among them sent was over before `since`, and before any that runs began. Where each of them has sent but once since
-/// then, and all of them packets of one origin, that is known too, with the tick at which the newest began.
+/// then, and all of them packets of one origin, that is known too, with the tick at which the newest began. The newest transmission
+/// of none of them ends before `soonest`.
 #[derive(Clone, Copy)]
 pub struct Recent {
     pub places: NodeSet,
     pub latest: u64,
     pub since: u64,
     pub newest: u64,
+    pub soonest: u64,
     pub origin: Option<Origin>,
 }
 
@@ -29,6 +31,7 @@ impl Recent {
             latest: 0,
             since: 0,
             newest: 0,
+            soonest: 0,
             origin: None,
         }
     }
@@ -64,6 +67,7 @@ impl Recent {
                 latest: self.latest.max(end),
                 since: start,
                 newest: start,
+                soonest: end,
                 origin: Some(origin),
             };
         }
@@ -72,6 +76,7 @@ impl Recent {
             latest: self.latest.max(end),
             since: self.since,
             newest: start,
+            soonest: self.soonest.min(end),
             origin: if self.is_joined(place, origin) {
                 self.origin
             } else {
@@ -86,6 +91,17 @@ impl Recent {
         ensures { result ≡ is_joined self.now place origin }
     {
         !self.places.has(place) && is_of(self.origin, origin)
+    }
+
+    /// All of them, if each has a transmission that overlaps one with these times by what is known, else none.
+    pub(crate) fn busy(&self, start: u64, end: u64) -> NodeSet
+        ensures { result ≡ busy_with self.now start end }
+    {
+        if start < self.soonest && self.newest < end {
+            self.places
+        } else {
+            NodeSet::EMPTY
+        }
     }
 
     /// Whether all of them have sent packets of that origin alone, from the tick `opens` on and not after `latest`.

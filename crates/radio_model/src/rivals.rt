@@ -1,7 +1,7 @@
 //! Transmissions that overlap another one on its channel.
 
 ghost use Rattle.std.specs.Prelude.{◌≡◌, ◌≤◌, ◌/◌, ◌<◌, ◌^◌, length, All, slice_index, slice_index_or, take};
-ghost use Rattle.link_trace.specs.Masks.{IsMask};
+ghost use Rattle.link_trace.specs.Masks.{IsMaskAmong};
 ghost use Rattle.radio_model.specs.Ages.{ByEnd};
 ghost use Rattle.radio_model.specs.Meetings.{key_of, IsInOneFrame, rival_to as rival_by, passes_at};
 
@@ -91,10 +91,10 @@ pub fn first_after(station: &Station, start: u64) -> usize
     0
 }
 
-/// The nodes to which a link passes at the key from the node at that place.
-pub fn reach_of<M: Links>(links: &M, key: Key, place: u8) -> NodeSet
+/// Those of the nodes of `among` to which a link passes at the key from the node at that place.
+pub fn reach_of<M: Links>(links: &M, key: Key, place: u8, among: NodeSet) -> NodeSet
     requires { place < length (M.nodes links.now) }
-    ensures { IsMask (λ v. passes_at (M.lines links.now) key (slice_index (M.nodes links.now) place) v) (M.nodes links.now) result }
+    ensures { IsMaskAmong (λ v. passes_at (M.lines links.now) key (slice_index (M.nodes links.now) place) v) (M.nodes links.now) among result }
 {
-    NodeSet::of_word(links.to_mask(key.frame, key.slot, key.counter, place))
+    links.to_mask_among(key.frame, key.slot, key.counter, place, among)
 }

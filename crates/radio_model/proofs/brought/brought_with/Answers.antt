@@ -9,6 +9,6 @@ returns-in-Some g c =
     let lines = g.M.Links.lines c.args.links.now in
     let nodes = g.M.Links.nodes c.args.links.now in
     let p = c.args.profile.now in
-    subst (λ (w : Brought). IsBrought lines nodes (option_to_list (rival_to p c.args.x.now c.args.station.now c.args.y.now)) w) (sym c.by.ensures)
-    (rival_comes lines nodes p c.args.x.now c.args.y.now c.args.station.now c.in-Some.rival c.reach_of.result c.requires.at
+    subst (λ (w : Brought). IsBrought lines nodes c.args.among (option_to_list (rival_to p c.args.x.now c.args.station.now c.args.y.now)) w) (sym c.by.ensures)
+    (rival_comes lines nodes c.args.among p c.args.x.now c.args.y.now c.args.station.now c.in-Some.rival c.reach_of.result c.requires.at
     (sym c.in-Some.is ∙ c.rival_to.ensures) c.reach_of.ensures)

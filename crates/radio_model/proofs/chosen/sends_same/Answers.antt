@@ -15,7 +15,8 @@ returns-then-eq g c =
     let st = c.args.station.now in
     let at = c.args.at.now in
     c.has.ensures
-    ∙ bit_tells nodes (λ v. list_any (repeats lines v) (rivals_in p x st)) c.brought_from.result.same at.place at.node c.brought_from.ensures.same c.requires.at
+    ∙ bit_tells nodes (λ v. list_any (repeats lines v) (rivals_in p x st)) c.with-asked.result c.brought_from.result.same at.place at.node
+    c.brought_from.ensures.same c.requires.at c.with-asked.ensures.set
     ∙ named_sends lines p x st at.node c.args.named (eqb-true st.node c.args.named (sym c.eq.ensures ∙ c.if-eq.true))
 
 pub returns-else-eq : goal.returns-else-eq

@@ -1,7 +1,7 @@
 use Rattle.std.proofs.Common.{◌<◌, ◌∙◌, ℕ, List, get_or, length, sym, subst, arith}
 use Rattle.radio_model.specs.Meetings.{key_of, passes_at, IsCrowd, rivals_in, no_crowd}
 use Rattle.radio_model.specs.declared.crowd.Crowd.{Crowd}
-use Rattle.link_trace.specs.Masks.{IsMask}
+use Rattle.link_trace.specs.Masks.{IsMaskAmong}
 use Rattle.radio_model.specs.declared.rivals.Key.{Key}
 use Rattle.radio_model.specs.declared.rivals.Rival.{Rival}
 use Rattle.radio_model.specs.declared.station.Station.{Station}
@@ -37,15 +37,15 @@ returns-then-comes_along g c =
     let marked = is.marks.each k c.index-ending-i.result c.index-ending-i-2.result below in
     let alike = alike_at nodes e is k c.index-ending-i.result c.index-ending-i-2.result below in
     λ d.
-    subst (λ (s : Station). IsCrowd lines nodes (rivals_in p x s) c.none.result)
+    subst (λ (s : Station). IsCrowd lines nodes c.args.among (rivals_in p x s) c.none.result)
     (the_station e.stations.now k c.args.place c.index-ending-i.result d c.from-i.ensures c.requires.place)
-    (subst (λ (w : Crowd). IsCrowd lines nodes (rivals_in p x st) w) (sym c.none.ensures)
+    (subst (λ (w : Crowd). IsCrowd lines nodes c.args.among (rivals_in p x st) w) (sym c.none.ensures)
     (elim c.then-comes_along.branch [
       | then-comes_along-via-then-comes_along w ↦
-          along_comes p x st mk e.origin e.delta marked alike is.delta.0 (sym c.comes_along.ensures ∙ w.if-comes_along.true) lines nodes
+          along_comes p x st mk e.origin e.delta marked alike is.delta.0 (sym c.comes_along.ensures ∙ w.if-comes_along.true) lines nodes c.args.among
       | then-comes_along-via-else-comes_along+then-is_aside w ↦
-          subst (λ (rs : List Rival). IsCrowd lines nodes rs no_crowd)
-          (sym (no_rivals_aside p x st mk marked (sym w.is_aside.ensures ∙ w.if-is_aside.true))) (nobody_comes lines nodes)
+          subst (λ (rs : List Rival). IsCrowd lines nodes c.args.among rs no_crowd)
+          (sym (no_rivals_aside p x st mk marked (sym w.is_aside.ensures ∙ w.if-is_aside.true))) (nobody_comes lines nodes c.args.among)
     ]))
 
 pub returns-then-comes_early : goal.returns-then-comes_early
@@ -64,12 +64,12 @@ returns-then-comes_early g c =
     let marked = is.marks.each k c.index-ending-i.result c.index-ending-i-2.result below in
     let alike = alike_at nodes e is k c.index-ending-i.result c.index-ending-i-2.result below in
     λ d.
-    subst (λ (s : Station). IsCrowd lines nodes (rivals_in p x s) (record { mixed = 0; spoiled = c.reach_of.result }))
+    subst (λ (s : Station). IsCrowd lines nodes c.args.among (rivals_in p x s) (record { mixed = 0; spoiled = c.reach_of.result }))
     (the_station e.stations.now k c.args.place c.index-ending-i.result d c.from-i.ensures c.requires.place)
     (early_comes p x st mk e.origin e.opens marked alike is.opens (sym c.is_aside.ensures ∙ c.if-is_aside.false)
-    (sym c.comes_early.ensures ∙ c.if-comes_early.true) lines nodes c.reach_of.result
-    (subst (λ (n : ℕ). IsMask (λ v. passes_at lines (key_of p x) n v) nodes c.reach_of.result) placed.there
-    (subst (λ (q : Key). IsMask (λ v. passes_at lines q (get_or nodes st.place 0) v) nodes c.reach_of.result) is.key c.reach_of.ensures)))
+    (sym c.comes_early.ensures ∙ c.if-comes_early.true) lines nodes c.args.among c.reach_of.result
+    (subst (λ (n : ℕ). IsMaskAmong (λ v. passes_at lines (key_of p x) n v) nodes c.args.among c.reach_of.result) placed.there
+    (subst (λ (q : Key). IsMaskAmong (λ v. passes_at lines q (get_or nodes st.place 0) v) nodes c.args.among c.reach_of.result) is.key c.reach_of.ensures)))
 
 pub returns : goal.returns
 returns g c =
@@ -78,8 +78,8 @@ returns g c =
     let e = c.args.ending.now in
     let st = get_or e.stations.now c.from-i.result c.index-ending-i.result in
     let b = c.brought_from-brought.result in
-    let crowd : IsCrowd lines nodes (rivals_in e.profile.now e.x.now st) (record { mixed = b.mixed; spoiled = b.spoiled }) =
+    let crowd : IsCrowd lines nodes c.args.among (rivals_in e.profile.now e.x.now st) (record { mixed = b.mixed; spoiled = b.spoiled }) =
     record { mixed = c.brought_from-brought.ensures.mixed; spoiled = c.brought_from-brought.ensures.spoiled } in
     λ d.
-    subst (λ (s : Station). IsCrowd lines nodes (rivals_in e.profile.now e.x.now s) (record { mixed = b.mixed; spoiled = b.spoiled }))
+    subst (λ (s : Station). IsCrowd lines nodes c.args.among (rivals_in e.profile.now e.x.now s) (record { mixed = b.mixed; spoiled = b.spoiled }))
     (the_station e.stations.now c.from-i.result c.args.place c.index-ending-i.result d c.from-i.ensures c.requires.place) crowd

@@ -35,7 +35,8 @@ returns-then-ending-clause-tells g c =
     (λ k below none. ap (λ (q : Key). passes_at lines q (get_or nodes k 0) (get_or nodes i 0)) (sym ok.key) ∙ c.near_of-near.ensures i k one below none)
     c.except-far.ensures (λ d. those_of_none (λ k. not (comes_close e.opens (x.start + e.delta) x e.origin (get_or e.marks.now k d))) c.except-far.result
     (λ k one. ap not (ok.close_by c.if-ending.true k d (left_bits e.places near c.except-far.result k c.except-far.ensures one).0))) crowd
-    (λ k d in_places in_near. c.in_ok-crowd.ensures.tells k i d inside (ap (λ (n : ℕ). bit_at n k) c.and.ensures ∙ both_bits e.places near k in_places in_near))
+    (λ k d in_places in_near. c.in_ok-crowd.ensures.tells k i d inside one
+    (ap (λ (n : ℕ). bit_at n k) c.and.ensures ∙ both_bits e.places near k in_places in_near))
     (λ k d there. absurd (omega (arith, there, bit_at-zero k)))
 
 pub returns-then-is_empty-2-clause-tells : goal.returns-then-is_empty-2-clause-tells
@@ -56,7 +57,8 @@ returns-then-is_empty-2-clause-tells g c =
     ok.few ok.opens ok.delta.0 ok.placed ok.in_order ok.marks ok.alike ok.among
     (λ k below none. ap (λ (q : Key). passes_at lines q (get_or nodes k 0) (get_or nodes i 0)) (sym ok.key) ∙ c.near_of-near.ensures i k one below none)
     c.except-far.ensures c.strangers-strange.ensures crowd
-    (λ k d in_places in_near. c.in_ok-crowd.ensures.tells k i d inside (ap (λ (n : ℕ). bit_at n k) c.and.ensures ∙ both_bits e.places near k in_places in_near))
+    (λ k d in_places in_near. c.in_ok-crowd.ensures.tells k i d inside one
+    (ap (λ (n : ℕ). bit_at n k) c.and.ensures ∙ both_bits e.places near k in_places in_near))
     (λ k d there. absurd (omega (
       arith,
       there,
@@ -82,7 +84,7 @@ returns-clause-tells g c =
     let near = c.near_of-near.result in
     let strange = c.strangers-strange.result in
     let first = c.in_ok-crowd.crowd in
-    both_some (AddsTo first) (TellsAt lines nodes p x sts (λ k. bit_at strange k ≡ 1))
+    both_some (AddsTo first) (TellsAt lines nodes p x sts c.args.ready (λ k. bit_at strange k ≡ 1))
     (λ w. (i : ℕ) → bit_at c.args.ready i ≡ 1 → HasBitsOf lines nodes (rivals_to p x sts) i w) c.crowd_with-2.result c.crowd_with-2.ensures.adds
     c.crowd_with-2.ensures.tells (λ crowd adds tells i one.
     let inside = c.requires.within i one in
@@ -91,5 +93,5 @@ returns-clause-tells g c =
     (λ k below none. ap (λ (q : Key). passes_at lines q (get_or nodes k 0) (get_or nodes i 0)) (sym ok.key) ∙ c.near_of-near.ensures i k one below none)
     c.except-far.ensures c.strangers-strange.ensures crowd
     (λ k d in_places in_near. tells_more_of lines nodes (rivals_in p x (get_or sts k d)) i first crowd adds
-    (c.in_ok-crowd.ensures.tells k i d inside (ap (λ (n : ℕ). bit_at n k) c.and.ensures ∙ both_bits e.places near k in_places in_near)))
-    (λ k d there. tells k i d inside there))
+    (c.in_ok-crowd.ensures.tells k i d inside one (ap (λ (n : ℕ). bit_at n k) c.and.ensures ∙ both_bits e.places near k in_places in_near)))
+    (λ k d there. tells k i d inside one there))

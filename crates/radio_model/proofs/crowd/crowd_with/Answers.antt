@@ -28,7 +28,7 @@ returns-then-is_empty-clause-none g c =
     let at : st ≡ get_or sts k st = get_or_default sts k (fresh 0 0) st below in
     let from : IsFrom lines nodes (rivals_to p x sts) c.with-crowd.result =
     subst (λ (w : Crowd). IsFrom lines nodes (rivals_to p x sts) w) (sym c.with-crowd.ensures)
-    (from_more lines nodes p x sts k st below at c.loop-ready.crowd c.crowd_at-other.result (c.crowd_at-other.ensures (fresh 0 0))
+    (from_more lines nodes p x sts k st below at c.left_of-asked.result c.loop-ready.crowd c.crowd_at-other.result (c.crowd_at-other.ensures (fresh 0 0))
     c.loop-ready.invariant.from) in
     λ i one. from.spoiled i (none_but c.args.ready c.with-crowd.result.spoiled
     c.left_of.result i c.left_of.ensures
@@ -41,7 +41,7 @@ loop-ready-init g c =
     record {
       from = c.requires.known;
       adds = adds_none lines nodes c.args.ending.now.profile.now c.args.ending.now.x.now c.args.ending.now.stations.now c.args.known;
-      tells = λ k i d inside done. absurd (omega (arith, done.0, done.1));
+      tells = λ k i d inside one done. absurd (omega (arith, done.0, done.1));
       left = λ k one. one;
     }
 
@@ -61,13 +61,15 @@ loop-ready-preserved g c =
     let at : st ≡ get_or sts k st = get_or_default sts k (fresh 0 0) st below in
     record {
       from = subst (λ (w : Crowd). IsFrom lines nodes (rivals_to p x sts) w) (sym c.with-crowd.ensures)
-          (from_more lines nodes p x sts k st below at a b (c.crowd_at-other.ensures (fresh 0 0)) c.loop-ready.invariant.from);
+          (from_more lines nodes p x sts k st below at c.left_of-asked.result a b (c.crowd_at-other.ensures (fresh 0 0)) c.loop-ready.invariant.from);
       adds = subst (λ (w : Crowd). AddsTo c.args.known w) (sym c.with-crowd.ensures)
-          (adds_more lines nodes p x sts k st below at a b (c.crowd_at-other.ensures (fresh 0 0)) c.args.known c.loop-ready.invariant.adds);
-      tells = λ j i d inside done. subst (λ (w : Crowd). HasBitsOf lines nodes (rivals_in p x (get_or sts j d)) i w) (sym c.with-crowd.ensures)
-          (tells_more lines nodes p x sts k st below at a b (c.crowd_at-other.ensures (fresh 0 0)) c.args.places c.loop-ready.rest new
-          c.without-rest.ensures.others
-          c.loop-ready.invariant.tells j i d inside done);
+          (adds_more lines nodes p x sts k st below at c.left_of-asked.result a b
+          (c.crowd_at-other.ensures (fresh 0 0)) c.args.known c.loop-ready.invariant.adds);
+      tells = λ j i d inside one done. subst (λ (w : Crowd). HasBitsOf lines nodes (rivals_in p x (get_or sts j d)) i w) (sym c.with-crowd.ensures)
+          (tells_more lines nodes p x sts k st below at c.left_of-asked.result a b
+          (c.crowd_at-other.ensures (fresh 0 0)) c.args.ready c.args.places c.loop-ready.rest new
+          (λ j one clean. c.left_of-asked.ensures j ∙ omega (arith, one, clean)) c.without-rest.ensures.others
+          c.loop-ready.invariant.tells j i d inside one done);
       left = λ j one. elim (cases_eq j k) [
         | inl here ↦ absurd (omega (arith, one, c.without-rest.ensures.cleared, ap (bit_at new) here))
         | inr other ↦ c.loop-ready.invariant.left j (sym (c.without-rest.ensures.others j other) ∙ one)
@@ -77,4 +79,4 @@ loop-ready-preserved g c =
 pub returns-clause-tells : goal.returns-clause-tells
 returns-clause-tells g c =
     let over : c.loop-ready.rest ≡ 0 = is_none c.loop-ready.rest c.is_empty.result c.is_empty.ensures c.loop-ready-test.false in
-    λ k i d inside one. c.loop-ready.invariant.tells k i d inside (one, ap (λ (n : ℕ). bit_at n k) over ∙ bit_at-zero k)
+    λ k i d inside asked one. c.loop-ready.invariant.tells k i d inside asked (one, ap (λ (n : ℕ). bit_at n k) over ∙ bit_at-zero k)

@@ -9,7 +9,7 @@ invariant-loop-ready g l = record {
   from : IsFrom (g.M.Links.lines l.links) (g.M.Links.nodes l.links) (rivals_of l.ending) l.crowd;
   adds : AddsTo l.fn.known l.crowd;
   tells : TellsAt (g.M.Links.lines l.links) (g.M.Links.nodes l.links) l.ending.profile.now l.ending.x.now l.ending.stations.now
-      (λ k. (bit_at l.fn.places k ≡ 1) × (bit_at l.rest k ≡ 0)) l.crowd;
+      l.ready (λ k. (bit_at l.fn.places k ≡ 1) × (bit_at l.rest k ≡ 0)) l.crowd;
   left : (k : ℕ) → bit_at l.rest k ≡ 1 → bit_at l.fn.places k ≡ 1;
 }
 

@@ -1,4 +1,4 @@
-use Rattle.std.proofs.Common.{◌≡◌, ℕ, ◌∙◌, inl, inr, bit_or, sym, ap, subst, arith}
+use Rattle.std.proofs.Common.{◌≡◌, ℕ, ◌∙◌, inl, inr, sym, ap, subst, arith}
 use Rattle.std.proofs.lemmas.Bool.{cases_eq}
 use Rattle.std.proofs.lemmas.Nat.Bits.{bit_at-zero}
 use Rattle.std.specs.Int.{bit_at}
@@ -7,8 +7,8 @@ use Rattle.radio_model.proofs.Gathered.{near_more}
 use Rattle.radio_model.proofs.Those.{is_none}
 use Rattle.radio_model.proofs.crowd.near_of.Goals as goal
 
-pub from_mask-from-requires : goal.from_mask-from-requires
-from_mask-from-requires g c =
+pub may_reach-from-requires : goal.may_reach-from-requires
+may_reach-from-requires g c =
     c.requires.within c.lowest-place.result (c.loop-key.invariant.left c.lowest-place.result c.lowest-place.ensures.set)
 
 pub loop-key-init : goal.loop-key-init
@@ -24,9 +24,9 @@ loop-key-preserved g c =
     record {
       near = subst (λ (n : ℕ). IsNear (g.M.Links.lines c.args.links.now) c.args.key (g.M.Links.nodes c.args.links.now)
           (λ i. (bit_at c.args.ready i ≡ 1) × (bit_at new i ≡ 0)) n)
-          (sym (c.or-near.ensures ∙ ap (bit_or c.loop-key.near) c.of_word.ensures))
+          (sym c.or-near.ensures)
           (near_more (g.M.Links.lines c.args.links.now) c.args.key (g.M.Links.nodes c.args.links.now) c.args.ready c.loop-key.rest new place
-          c.loop-key.near c.from_mask-from.result c.loop-key.invariant.near c.without-rest.ensures.others c.from_mask-from.ensures);
+          c.loop-key.near c.may_reach-from.result c.loop-key.invariant.near c.without-rest.ensures.others c.may_reach-from.ensures);
       left = λ j one. elim (cases_eq j place) [
         | inl here ↦ absurd (omega (arith, one, c.without-rest.ensures.cleared, ap (bit_at new) here))
         | inr other ↦ c.loop-key.invariant.left j (sym (c.without-rest.ensures.others j other) ∙ one)

@@ -2,8 +2,9 @@ use Rattle.std.proofs.Common.{◌≡◌, ◌∙◌, ℕ, List, ◌++◌, Bool, �
 use Rattle.std.proofs.Common.{inl, inr, sym, ap, subst, arith}
 use Rattle.std.proofs.lemmas.Bool.{cases_eq, cond-true, cond-false}
 use Rattle.std.proofs.lemmas.List.{length-map}
+use Rattle.std.proofs.lemmas.Nat.Bits.{bit_at-lt}
 use Rattle.std.specs.Int.{bit_at}
-use Rattle.link_trace.specs.Masks.{IsMask}
+use Rattle.link_trace.specs.Masks.{IsMaskAmong}
 use Rattle.link_trace.specs.Passes.{Lines, captured}
 use Rattle.radio_model.specs.Stations.{id_of_station, fresh}
 use Rattle.radio_model.specs.Meetings.{is_chosen, is_heard, key_of, rivals_to, passes_at, IsPlaceOf}
@@ -12,6 +13,7 @@ use Rattle.radio_model.specs.declared.rivals.Key.{Key}
 use Rattle.radio_model.specs.declared.station.Station.{Station}
 use Rattle.radio_model.proofs.HeardInTurn.{LooksAt, of_node, left_bits, heard_at, all_heard, heard_of_left, looked_at, room_for_it}
 use Rattle.radio_model.proofs.EndingPlaces.{the_station}
+use Rattle.radio_model.proofs.RestOfPlaces.{bit_cases}
 use Rattle.radio_model.proofs.Ready.{AreReady, ready_below, nobody_hears, not_where_left_out, taken_is_heard}
 use Rattle.radio_model.proofs.Those.{is_none}
 use Rattle.radio_model.proofs.listeners.listeners.Given.{Over}
@@ -35,12 +37,19 @@ left_ready g c =
       size = ap length is.seal ∙ length-map sts id_of_station;
       placed = is.placed;
       in_order = is.in_order;
+      idle = c.idle.result;
+      busy_else = λ k d below none. is.busy k d below (elim (bit_cases (bit_at c.args.ending.now.busy k) (bit_at-lt c.args.ending.now.busy k)) [
+        | inl not_busy ↦ absurd (omega (arith, none, c.idle.ensures k (omega (arith, below, is.few)) not_busy))
+        | inr one ↦ one
+      ]);
       reached = c.reach_of-reached.result;
       lost = c.lost_early-lost.result;
       left = c.except-left.result;
-      reach = subst (λ (n : ℕ). IsMask (passes (key_of c.args.ending.now.profile.now c.args.ending.now.x.now) n) nodes c.reach_of-reached.result)
+      reach = subst (λ (n : ℕ). IsMaskAmong (passes (key_of c.args.ending.now.profile.now c.args.ending.now.x.now) n) nodes c.idle.result
+          c.reach_of-reached.result)
           c.requires.from.there
-          (subst (λ (k : Key). IsMask (passes k (get_or nodes c.args.from.now.place 0)) nodes c.reach_of-reached.result) is.key c.reach_of-reached.ensures);
+          (subst (λ (k : Key). IsMaskAmong (passes k (get_or nodes c.args.from.now.place 0)) nodes c.idle.result
+          c.reach_of-reached.result) is.key c.reach_of-reached.ensures);
       lost_is = c.lost_early-lost.ensures;
       left_is = c.except-left.ensures;
       those = c.ready_of-ready.ensures;
@@ -89,7 +98,8 @@ ready_of-ready-requires-clause-within g c =
     λ k one.
     omega (
       arith,
-      of_node nodes (λ v. passes_at (g.M.Links.lines c.args.links.now) e.key (get_or nodes c.args.from.now.place 0) v) reached k c.reach_of-reached.ensures
+      of_node nodes (λ v. passes_at (g.M.Links.lines c.args.links.now) e.key (get_or nodes c.args.from.now.place 0) v) c.idle.result reached k
+          c.reach_of-reached.ensures
           (left_bits reached c.lost_early-lost.result c.except-left.result k c.except-left.ensures one).0,
       ap length c.requires.ending.seal,
       length-map e.stations.now id_of_station,

@@ -1,5 +1,6 @@
 use Rattle.std.proofs.Common.{List, ◌≡◌, ◌+◌, ◌≤◌, ◌^◌, ◌∙◌, ℕ, Some, None, Option, All, ap, subst, sym, arith, IfSome}
 use Rattle.std.proofs.lemmas.List.{length-map}
+use Rattle.std.specs.Int.{bit_at}
 use Rattle.radio_model.specs.Ages.{IsAged}
 use Rattle.radio_model.specs.Stations.{MediumState, nodes_of, station_of, sending_of_station, Ends}
 use Rattle.radio_model.specs.Meetings.{hearers_to, IsPlaceOf}
@@ -8,7 +9,7 @@ use Rattle.radio_model.specs.declared.station.Station.{Station}
 use Rattle.radio_model.proofs.Origins.{alike_to}
 use Rattle.radio_model.specs.Stations.{id_of_station}
 use Rattle.radio_model.proofs.PlacedStations.{StandsFor, all_placed, found_station, seen}
-use Rattle.radio_model.proofs.RecentPlaces.{among_recent, close_recent}
+use Rattle.radio_model.proofs.NextToEnding.{among_recent, busy_recent, close_recent}
 use Rattle.radio_model.proofs.SendingAtPlace.{runs_there, times_there, hearers_there}
 use Rattle.radio_model.proofs.medium.Medium.hearers.Given.{Over}
 use Rattle.radio_model.proofs.medium.Medium.hearers.Goals as goal
@@ -68,6 +69,8 @@ listeners-requires-clause-ending g c =
           c.self.invariant.3 (record { below = at.below; station = sym c.index-from.ensures; mark = sym c.index.ensures }) c.in-Some.is;
       among = among_recent m.numbers m.now m.stations c.self.inside.marks.items c.self.inside.recent c.self.invariant.2 c.self.invariant.6
           c.place_of-place.result c.index-from.result.now c.in-Some.x at.below (ap (λ (s : Station). s.sending) (sym at.at) ∙ c.in-Some.is);
+      busy = λ k d below one. busy_recent m.now m.stations c.self.inside.marks.items c.self.inside.recent c.self.invariant.2 c.self.invariant.6 c.in-Some.x k d
+          (ap (λ (n : ℕ). bit_at n k) (sym c.busy.ensures) ∙ one);
       close_by = λ so. close_recent m.now m.stations c.self.inside.marks.items c.self.inside.recent c.self.invariant.6 c.place_of-place.result
           c.index-from.result.now c.in-Some.x at.below (ap (λ (s : Station). s.sending) (sym at.at) ∙ c.in-Some.is) c.index.result.now.origin
           c.frame_start-opens.result (c.in-Some.x.start + c.self.inside.delta) (sym c.is_close.ensures ∙ so);
