@@ -54,8 +54,8 @@ among_recent p now sts mks r marks are i d x below runs = record {
 }
 
 -- those that are busy send next to what has these times
-pub busy_recent : (now : ℕ) (sts : List Station) (mks : List Mark) (r : Recent) → AreMarks sts mks → AreRecent now sts mks r → (x : Sending) (k : ℕ) (d : Station)
-    → bit_at (busy_with r x.start x.end) k ≡ 1 → list_any (overlaps x) (on_air (get_or sts k d)) ≡ true
+pub busy_recent : (now : ℕ) (sts : List Station) (mks : List Mark) (r : Recent) → AreMarks sts mks → AreRecent now sts mks r
+    → (x : Sending) (k : ℕ) (d : Station) → bit_at (busy_with r x.start x.end) k ≡ 1 → list_any (overlaps x) (on_air (get_or sts k d)) ≡ true
 busy_recent now sts mks r marks are x k d one = by (nat_lt x.start r.soonest && nat_lt r.newest x.end) refl one
   where
     by : (b : Bool) → (nat_lt x.start r.soonest && nat_lt r.newest x.end) ≡ b → bit_at (if b then r.places else 0) k ≡ 1
