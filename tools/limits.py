@@ -23,7 +23,7 @@ TAKEN = {
     "lwb_base/src/read.rt": {"INPUT_LIMIT": "INPUT_LIMIT"},
     "scenario_text/src/limits.rt": {name: name for name in ("RUN_NODE_FRAMES", "BUS_NODE_FRAMES", "BUS_SCRIPT_LINES")},
     "network_text/src/limits.rt": {name: name for name in ("GREATEST_RATIO", "MOST_RATIO_LINES")},
-    "stream_source/src/stream.rt": {"ROOM": "QUEUE_LENGTH"},
+    "node_streams/src/stream.rt": {"ROOM": "QUEUE_LENGTH"},
     "stream_table/src/table_entry.rt": {"UNHEARD": "EMPTY_SLOTS"},
 }
 HEAD = '"""The numbers that the rules and the texts fix, as the sources of the programs have them: written by tools/limits.py."""\n'

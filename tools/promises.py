@@ -3,7 +3,7 @@
 
 Usage: tools/promises.py. In each row of the table
 - the first cell is in README.md word for word, links and marks of markup aside;
-- the second names public functions, each as '`top` in `replay_tool`, clause `report`': the crate has it, with that clause;
+- the second names public functions, each as '`top` in `run_commands`, clause `report`': the crate has it, with that clause;
 - the third begins with an edit, as '`crate/name`': it is in the crate's must-fail/ or in tests/edits/crate, its file has each old line
   just once, and the new one is another.
 

@@ -20,12 +20,12 @@ HEADLINES = [
     (Headline("`a_run_is_printed` in `law_printed`, clauses `deliveries` and `finished`", "law_printed", "printed", "a_run_is_printed",
               ("deliveries", "finished")), 1000),
     (Headline("`a_run_is_printed`, clause `safe`", "law_printed", "printed", "a_run_is_printed", ("safe",)), 1200),
-    (Headline("`run` and `log`: `top` in `replay_tool`, clauses `report` and `write_fault`", "replay_tool", "top_call", "top",
+    (Headline("`run` and `log`: `top` in `run_commands`, clauses `report` and `write_fault`", "run_commands", "top_call", "top",
               ("report", "write_fault"), ("Run", "Log")), None),
     (Headline("a valid log is safe: `every_lawful_log_is_safe` in `law_safety`, clause `lawful`", "law_safety", "safe_logs",
               "every_lawful_log_is_safe", ("lawful",)), None),
-    (Headline("all of `top`", "replay_tool", "top_call", "top"), None),
-    (Headline("all of `plan_top` in `plan_tool`", "plan_tool", "plan_top_call", "plan_top"), None),
+    (Headline("all of `top`", "run_commands", "top_call", "top"), None),
+    (Headline("all of `plan_top` in `plan_commands`", "plan_commands", "plan_top_call", "plan_top"), None),
 ]
 # Those that are copied, in this order: each part has what the parts before it do not have.
 COPIED = [

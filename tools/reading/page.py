@@ -30,7 +30,7 @@ CHAPTERS = [
     ("The log", "air_log"),
     ("Safety", "air_log/Safe"),
     ("The log and the bus", "law_terms law_bus"),
-    ("Reading, writing and the call", "lwb_base command_line replay_tool law_printed"),
+    ("Reading, writing and the call", "lwb_base command_line run_commands law_printed"),
 ]
 
 

@@ -3,11 +3,11 @@ use Rattle.std.specs.Prelude.{◌≡◌, ◌≢◌, ◌≤◌, ℕ, List, [], St
 use Rattle.std.specs.declared.alloc.Global.{Global}
 use Rattle.lwb_base.specs.Causes.{Rose}
 use Rattle.air_log.specs.declared.entry.Entry.{Entry}
-use Rattle.replay_tool.specs.Commands.{Asks, IsCommand, IsReading, reads}
+use Rattle.run_commands.specs.Commands.{Asks, IsCommand, IsReading, reads}
 use Rattle.command_line.specs.ProcessRuns.{ProcessStreams}
 use Rattle.command_line.specs.Streams.{IsInput, PartRead, Written, PartWritten}
-use Rattle.replay_tool.specs.CommandLine.{ReportDue, FaultDue, UsageDue, SomeDue, IsComplete}
-use Rattle.replay_tool.specs.declared.command.Command.{Command}
+use Rattle.run_commands.specs.CommandLine.{ReportDue, FaultDue, UsageDue, SomeDue, IsComplete}
+use Rattle.run_commands.specs.declared.command.Command.{Command}
 
 -- a call of `top`: each clause of its contract, by the same name
 pub record IsTopCall {S K : Type 0} (e : ProcessStreams S K) (words : List (String Global)) (source source_after : S) (sink sink_after : K)

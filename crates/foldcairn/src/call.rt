@@ -4,7 +4,7 @@ ghost use Rattle.foldcairn.specs.TopCalls.{CallsTop};
 
 use command_line::ProcessCall;
 use lwb_base::{Sink, Source};
-use replay_tool::top;
+use run_commands::top;
 use std::alloc::Global;
 
 /// The process calls `top`, over any source and sink, and ends with its status.

@@ -4,9 +4,9 @@ use Rattle.std.specs.declared.alloc.Global.{Global}
 use Rattle.lwb_base.specs.Causes.{Rose}
 use Rattle.command_line.specs.ProcessRuns.{ProcessStreams}
 use Rattle.command_line.specs.Streams.{PartRead, Written, PartWritten}
-use Rattle.plan_tool.specs.Commands.{Asks, IsCommand}
-use Rattle.plan_tool.specs.TextsDue.{ReportDue, FaultDue, UsageDue, SomeDue, IsComplete, IsSample}
-use Rattle.plan_tool.specs.declared.command.Command.{Command}
+use Rattle.plan_commands.specs.Commands.{Asks, IsCommand}
+use Rattle.plan_commands.specs.TextsDue.{ReportDue, FaultDue, UsageDue, SomeDue, IsComplete, IsSample}
+use Rattle.plan_commands.specs.declared.command.Command.{Command}
 
 -- each clause of its contract, by the same name
 pub record IsPlanCall {S K : Type 0} (e : ProcessStreams S K) (source source_after : S) (sink sink_after : K) (words : List (String Global))

@@ -4,7 +4,7 @@ ghost use Rattle.foldcairn_plan.specs.PlanCalls.{IsPlanCall};
 
 use command_line::ProcessCall;
 use lwb_base::{Sink, Source};
-use plan_tool::plan_top;
+use plan_commands::plan_top;
 use std::alloc::Global;
 
 /// The process calls `plan_top`, over any source and sink, and ends with its status.

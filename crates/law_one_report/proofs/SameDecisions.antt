@@ -6,7 +6,7 @@ use Rattle.deadline_plan.specs.declared.admission.Admit.{Admit}
 use Rattle.deadline_plan.specs.declared.admission.Admit.TheVariants.{Yes, Twice, Full, Over}
 use Rattle.deadline_plan.specs.declared.job.Job.{Job}
 use Rattle.deadline_plan.specs.declared.stream.DeadlineStream.{DeadlineStream}
-use Rattle.replay_tool.specs.DeadlineReport.{Decides, Decided, IsDeadlineReport, stream_of_answer, deadline_lines, no_streams}
+use Rattle.run_commands.specs.DeadlineReport.{Decides, Decided, IsDeadlineReport, stream_of_answer, deadline_lines, no_streams}
 
 one_until : (slots : ℕ) (js : List Job) (f u g w : ℕ) → IsFirstOver slots js f u → IsFirstOver slots js g w → u ≡ w
 one_until slots js f u g w one two =

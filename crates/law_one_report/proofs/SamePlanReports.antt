@@ -23,8 +23,8 @@ use Rattle.drawn_bus.specs.DrawnScenarios.{drawn_scenario}
 use Rattle.drawn_bus.specs.KeptLosses.{kept_losses}
 use Rattle.added_losses.specs.LossesAdded.{IsWithLosses}
 use Rattle.network_text.specs.NetworkGrammar.{network_of}
-use Rattle.plan_tool.specs.DrawnTexts.{IsDrawnText}
-use Rattle.plan_tool.specs.Reports.{IsBoundsText, OfNetwork, TellsOfRun}
+use Rattle.plan_commands.specs.DrawnTexts.{IsDrawnText}
+use Rattle.plan_commands.specs.Reports.{IsBoundsText, OfNetwork, TellsOfRun}
 use Rattle.law_one_report.proofs.SameLosses.{Below, same_losses}
 use Rattle.law_one_report.proofs.SameReports.{one_said}
 use Rattle.law_one_report.proofs.SameRuns.{IsTimed, IsToldAlike, RunLaws, one_run}

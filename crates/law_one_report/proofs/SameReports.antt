@@ -16,15 +16,15 @@ use Rattle.bus_terms.specs.Bus.{bus_deliveries, bus_drops}
 use Rattle.lwb_flood.specs.FloodLog.{HasClocks}
 use Rattle.air_log.specs.declared.entry.Entry.{Entry}
 use Rattle.run_report.specs.RunsTold.{IsOfRun, Telling}
-use Rattle.replay_tool.specs.Reports.{IsFloodReport, IsReturnReport, IsTimesReport, OfScenario}
+use Rattle.run_commands.specs.Reports.{IsFloodReport, IsReturnReport, IsTimesReport, OfScenario}
 use Rattle.run_report.specs.RunReport.{run_report, log_report}
-use Rattle.replay_tool.specs.Summary.{summary, number_line, sent_ticks, on_ticks}
+use Rattle.run_commands.specs.Summary.{summary, number_line, sent_ticks, on_ticks}
 use Rattle.bus_report.specs.BusReport.{bus_report}
-use Rattle.replay_tool.specs.CheckReport.{IsCheckReport, verdict_line}
-use Rattle.replay_tool.specs.DeadlineReport.{IsDeadlineReport}
-use Rattle.replay_tool.specs.ReturnReport.{node_probes, return_line, return_report}
-use Rattle.replay_tool.specs.TimesReport.{stamp_line}
-use Rattle.replay_tool.specs.declared.command.Command.TheVariants.{Flood, Run, Log, Bus, Demo, Check, Deadlines, Times, Return}
+use Rattle.run_commands.specs.CheckReport.{IsCheckReport, verdict_line}
+use Rattle.run_commands.specs.DeadlineReport.{IsDeadlineReport}
+use Rattle.run_commands.specs.ReturnReport.{node_probes, return_line, return_report}
+use Rattle.run_commands.specs.TimesReport.{stamp_line}
+use Rattle.run_commands.specs.declared.command.Command.TheVariants.{Flood, Run, Log, Bus, Demo, Check, Deadlines, Times, Return}
 use Rattle.host_return.specs.OneReturned.{OneReturnedLaw}
 use Rattle.host_return.specs.declared.returned.Return.{Return as HostReturn}
 use Rattle.bus_time.specs.StampLaws.{OneListLaw}

@@ -1,7 +1,7 @@
 -- The same command of a planner on the same input gives the same report.
 use Rattle.std.specs.Prelude.{◌≡◌, ℕ, List}
-use Rattle.plan_tool.specs.Reports.{IsReport}
-use Rattle.plan_tool.specs.declared.command.Command.{Command}
+use Rattle.plan_commands.specs.Reports.{IsReport}
+use Rattle.plan_commands.specs.declared.command.Command.{Command}
 
 -- two reports of this command and one input are the same bytes
 abbrev pub HasOneReport : Command → Type 0

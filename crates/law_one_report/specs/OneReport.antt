@@ -1,9 +1,9 @@
 -- The same command on the same input gives the same report.
 use Rattle.std.specs.Prelude.{◌≡◌, ℕ, List, IsPermutation}
 use Rattle.air_log.specs.declared.entry.Entry.{Entry}
-use Rattle.replay_tool.specs.Answers.{IsAsked}
-use Rattle.replay_tool.specs.Reports.{IsReport}
-use Rattle.replay_tool.specs.declared.command.Command.{Command}
+use Rattle.run_commands.specs.Answers.{IsAsked}
+use Rattle.run_commands.specs.Reports.{IsReport}
+use Rattle.run_commands.specs.declared.command.Command.{Command}
 
 -- two reports of one command and one input are the same bytes, and their logs have the same entries, each as often
 abbrev pub OneReportLaw : Type 0

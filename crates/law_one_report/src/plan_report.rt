@@ -2,12 +2,12 @@
 
 ghost use Rattle.std.specs.Prelude.{ℕ};
 ghost use Rattle.law_one_report.specs.OnePlanReport.{HasOneReport};
-ghost use Rattle.plan_tool.specs.declared.command.Command.TheVariants.{Bounds, Draw, Fates, Log, Outcome, Run, Sample};
+ghost use Rattle.plan_commands.specs.declared.command.Command.TheVariants.{Bounds, Draw, Fates, Log, Outcome, Run, Sample};
 
 use law_one_log::{
     a_scenario_has_one_cost, a_scenario_has_one_lawful_log, a_scenario_has_one_log_text,
 };
-use plan_tool::drawn_runs_deliver_in_order;
+use plan_commands::drawn_runs_deliver_in_order;
 use scenario_clocks::scenario_clocks_keep_the_drift_law;
 
 /// Two reports of one command of `foldcairn-plan` on one input are the same bytes, for all seven commands, whatever their seeds. A

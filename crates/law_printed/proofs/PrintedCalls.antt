@@ -15,13 +15,13 @@ use Rattle.scenario_text.proofs.OrderedParts.{said_in_order}
 use Rattle.scenario_clocks.specs.StatedClocks.{scenario_clock}
 use Rattle.bus_terms.specs.Bus.{bus_deliveries, bus_drops}
 use Rattle.air_log.specs.declared.entry.Entry.{Entry}
-use Rattle.replay_tool.specs.CommandLine.{ReportDue, IsComplete}
-use Rattle.replay_tool.specs.Commands.{Asks, Spell, fault_of, reads}
-use Rattle.replay_tool.specs.Reports.{IsReport, OfScenario}
+use Rattle.run_commands.specs.CommandLine.{ReportDue, IsComplete}
+use Rattle.run_commands.specs.Commands.{Asks, Spell, fault_of, reads}
+use Rattle.run_commands.specs.Reports.{IsReport, OfScenario}
 use Rattle.run_report.specs.RunsTold.{IsOfRun, Telling}
 use Rattle.run_report.specs.RunReport.{log_report, run_report}
-use Rattle.replay_tool.specs.declared.command.Command.{Command}
-use Rattle.replay_tool.specs.declared.command.Command.TheVariants.{Flood, Run, Log, Bus, Demo, Check, Deadlines, Times, Return}
+use Rattle.run_commands.specs.declared.command.Command.{Command}
+use Rattle.run_commands.specs.declared.command.Command.TheVariants.{Flood, Run, Log, Bus, Demo, Check, Deadlines, Times, Return}
 use Rattle.law_printed.specs.Printed.{CanBeRun, PrintsDeliveries, PrintsSafeLog, lines_with}
 use Rattle.law_printed.proofs.PrintedReports.{log_sends, run_delivers}
 

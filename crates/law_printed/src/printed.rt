@@ -11,7 +11,7 @@ ghost use Rattle.law_printed.specs.Printed.{CanBeRun, PrintsDeliveries, PrintsSa
 use lwb_base::{Sink, Source};
 use std::alloc::Global;
 
-/// Calls `top` of `replay_tool` once, as the program does, and returns its status. If the input is the canonical text of a scenario
+/// Calls `top` of `run_commands` once, as the program does, and returns its status. If the input is the canonical text of a scenario
 /// that may be run, and the status is 0: with the word `run` the lines `deliver` of what is written are those of the ideal
 /// single-hop bus (`deliveries`), and with the word `log` the lines `sent` are the transmissions of a safe log (`safe`). In both
 /// cases the status is 0, or 5 for out of memory, unless the source or the sink failed (`finished`).
@@ -30,5 +30,5 @@ pub fn a_run_is_printed<S: Source, K: Sink>(
         → S.left source.old ≡ Some (canonical s) → (Rose (S.faults source.old) (S.faults source.new) → ⊥)
         → (Rose (K.faults sink.old) (K.faults sink.new) → ⊥) → (result ≡ 0) ⊎ (result ≡ 5) }
 {
-    replay_tool::top(alloc, words, source, sink).status
+    run_commands::top(alloc, words, source, sink).status
 }

@@ -8,7 +8,7 @@ ghost use Rattle.bus_rules.specs.Cores.{booted, frame_ended, is_fresh, begins_ho
 ghost use Rattle.bus_rules.specs.Slots.{part_of, hosts_now};
 ghost use Rattle.bus_rules.specs.States.{IsStreamAct, core_after_act};
 ghost use Rattle.bus_rules.specs.Streams as rule;
-ghost use Rattle.stream_source.specs.declared.stream.Put.TheVariants.{Queued, Dropped};
+ghost use Rattle.node_streams.specs.declared.stream.Put.TheVariants.{Queued, Dropped};
 ghost use Rattle.lwb_member.specs.Members.{IsBoot};
 ghost use Rattle.lwb_member.specs.Places.{IsPartOfSlot};
 
@@ -18,10 +18,10 @@ use arrayvec::ArrayVec;
 use bus_rules::{Act, Part, Tune, contention_slots};
 use host_failover::Tuner;
 use lwb_base::{Memory, NodeId, Payload, Profile, Rank};
+use node_streams::{Put, Streams};
 use schedule_codec::{Acks, Owners, Schedule};
 use std::alloc::Global;
 use std::marker::Model;
-use stream_source::{Put, Streams};
 use stream_table::Table;
 
 /// A node as a member of its rounds. Contracts see what is fixed for it, and the core that the rules of the bus change.

@@ -23,8 +23,8 @@ use arrayvec::ArrayVec;
 use host_scheduler::plan_round;
 use lwb_base::{NodeId, Owner, Packet};
 use lwb_packets::Request;
+use node_streams::Streams;
 use schedule_codec::{Ack, Acks, Schedule, write};
-use stream_source::Streams;
 use stream_table::{Answer, Table, code_order};
 
 // The requests that were kept are put to the table, in their order. What is acknowledged of them.

@@ -6,7 +6,7 @@ ghost use Rattle.bus_rules.specs.Cores.{own_rank};
 ghost use Rattle.bus_rules.specs.declared.tune.Tune.TheVariants.{Scan};
 ghost use Rattle.bus_rules.specs.States.{IsAct};
 ghost use Rattle.bus_rules.specs.Streams as rule;
-ghost use Rattle.stream_source.specs.declared.stream.Put.TheVariants.{Queued, Dropped};
+ghost use Rattle.node_streams.specs.declared.stream.Put.TheVariants.{Queued, Dropped};
 ghost use Rattle.lwb_member.specs.Members.{IsBoot};
 ghost use Rattle.node_core.specs.declared.node.Place.TheVariants.{Off};
 ghost use Rattle.node_core.specs.Nodes.{rebooted, with_streams};
@@ -16,9 +16,9 @@ use crate::stage::Stage;
 use bus_rules::{Act, Delivery, Tune};
 use lwb_base::{Memory, NodeId, Payload, Profile, Rank};
 use lwb_member::Member;
+use node_streams::Put;
 use std::alloc::Global;
 use std::marker::Model;
-use stream_source::Put;
 use time_reference::Reference;
 
 /// Where a node is in its frame.

@@ -15,10 +15,10 @@ use bus_rules::{Act, Tune};
 use bus_terms::{PacketId, PutLine};
 use lwb_base::{Memory, NodeId, Payload, Profile, Rank};
 use lwb_member::Member;
+use node_streams::Put;
 use scenario_text::ScriptLine;
 use std::alloc::Global;
 use std::marker::Model;
-use stream_source::Put;
 
 /// A node of the bus: off after a number of boots, or on as a member of its rounds.
 #[derive(Drop)]

@@ -1,8 +1,8 @@
 //! Tests of streams.
 
 use lwb_base::Payload;
+use node_streams::{Put, Streams};
 use std::alloc::Global;
-use stream_source::{Put, Streams};
 
 // Whether as many packets as a stream may have wait with their numbers.
 fn fills(streams: &mut Streams, payload: &Payload) -> bool {

@@ -11,5 +11,5 @@ pub use bus_rules::{Act, Delivery, Tune};
 pub use lwb_base::{Event, LocalClock, MOST_BOOTS, Memory, NodeId, Packet, Payload, Profile, Radio, Rank};
 pub use node_core::{Node, Place};
 pub use rattle_std::alloc::Global;
-pub use stream_source::Put;
+pub use node_streams::Put;
 

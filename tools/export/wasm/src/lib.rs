@@ -95,9 +95,9 @@ fn answer(spelled: &[u8], input: &[u8], output: &mut Output) -> u32 {
     };
     let mut source = Input(input);
     if is_planners(&words) {
-        return u32::from(plan_tool::plan_top(Global, &words, &mut source, output));
+        return u32::from(plan_commands::plan_top(Global, &words, &mut source, output));
     }
-    u32::from(replay_tool::top(Global, &words, &mut source, output).status)
+    u32::from(run_commands::top(Global, &words, &mut source, output).status)
 }
 
 /// The status of the program that has the command, for these words and this input, whose places `room` gave: both are freed.

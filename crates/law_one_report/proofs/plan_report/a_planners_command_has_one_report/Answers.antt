@@ -1,7 +1,7 @@
 use Rattle.bus_report.specs.BusReport.{bus_report}
 use Rattle.drawn_bus.specs.DrawnScenarios.{drawn_scenario}
 use Rattle.fate_report.specs.FateLines.{fates_text}
-use Rattle.plan_tool.specs.SeedTexts.{seeds_text}
+use Rattle.plan_commands.specs.SeedTexts.{seeds_text}
 use Rattle.run_report.specs.RunReport.{log_report, run_report}
 use Rattle.law_one_report.proofs.SamePlanReports.{one_bounds, one_drawn, one_drawn_run, one_told}
 use Rattle.law_one_report.proofs.SameRuns.{RunLaws, log_alike, run_alike}

@@ -1,6 +1,6 @@
 use Rattle.std.proofs.Common.{inl, inr}
 use Rattle.scenario_text.specs.Canonical.{canonical}
-use Rattle.replay_tool.specs.declared.command.Command.TheVariants.{Log, Run}
+use Rattle.run_commands.specs.declared.command.Command.TheVariants.{Log, Run}
 use Rattle.law_printed.proofs.PrintedCalls.{log_ends, log_prints, run_ends, run_prints}
 use Rattle.law_printed.proofs.printed.a_run_is_printed.Goals as goal
 

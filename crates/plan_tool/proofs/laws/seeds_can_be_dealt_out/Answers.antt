@@ -1,5 +1,0 @@
-use Rattle.plan_tool.proofs.SeedsInTurn.{seeds_joined}
-use Rattle.plan_tool.proofs.laws.seeds_can_be_dealt_out.Goals as goal
-
-pub returns : goal.returns
-returns c = seeds_joined

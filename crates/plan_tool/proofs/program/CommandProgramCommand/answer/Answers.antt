@@ -1,5 +1,0 @@
-use Rattle.plan_tool.proofs.ToldAnswers.{told}
-use Rattle.plan_tool.proofs.program.CommandProgramCommand.answer.Goals as goal
-
-pub returns : goal.returns
-returns c = told c.args.self c.args.bytes.now c.answer.result c.answer.ensures

@@ -1,6 +1,0 @@
-use Rattle.std.proofs.Common.{rules, of_calls}
-use Rattle.replay_tool.specs.DeadlineReport.{answer_line}
-use Rattle.replay_tool.proofs.deadline_report.write_answers.Goals as goal
-
-pub returns : goal.returns
-returns c = c.write_lines.ensures answer_line (λ old item result new here wrote. search (rules, of_calls))

@@ -1,4 +1,0 @@
-use Rattle.replay_tool.proofs.log_answer.log_answer.Goals as goal
-
-pub returns-in-Ok : goal.returns-in-Ok
-returns-in-Ok c = c.answer_of.ensures c.args.bytes.now c.in-Ok.ensures

@@ -1,4 +1,0 @@
-use Rattle.replay_tool.proofs.program.answer.Goals as goal
-
-pub returns-in-Demo : goal.returns-in-Demo
-returns-in-Demo c = rw c.in-Demo.is (c.demo_answer.ensures c.args.bytes.now)

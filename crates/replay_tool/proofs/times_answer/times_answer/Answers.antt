@@ -1,4 +1,0 @@
-use Rattle.replay_tool.proofs.times_answer.times_answer.Goals as goal
-
-pub returns-in-Ok : goal.returns-in-Ok
-returns-in-Ok c = c.times_of.ensures c.args.bytes.now c.in-Ok.ensures

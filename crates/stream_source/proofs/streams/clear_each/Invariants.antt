@@ -1,6 +1,0 @@
-use Rattle.std.proofs.Common.{◌≡◌, ◌++◌, replicate, drop}
-use Rattle.bus_rules.specs.Streams.{no_stream}
-use Rattle.stream_source.proofs.streams.clear_each.Given as goal
-
-abbrev pub invariant-loop-stream : goal.invariant-loop-stream
-invariant-loop-stream l = l.streams ≡ replicate l.stream-index no_stream ++ drop l.stream-index l.initial.streams
