@@ -1,23 +1,33 @@
 #!/usr/bin/env python3
-"""Checks the docstrings of the Python package's public functions by numpydoc's validation (Debian's package python3-numpydoc).
+"""Checks the docstrings of what the Python package makes public by numpydoc's validation (Debian's package python3-numpydoc).
 
 Usage: tools/docstrings.py [MODULE ..]
 
-Without words it checks the functions that `__all__` of each module of MODULES below names. Status 0 if nothing is wrong; 1 if something is:
-each is told on a line with the function, the number of the check and what it says. Tested, not proved.
+Public is what `__all__` names in foldcairn itself and in the modules directly below it: functions, and classes with their public methods and
+properties. Without words it checks all of these but the modules of LATER below. Status 0 if nothing is wrong; 1 if something is: each is
+told on a line with the name, the number of the check and what it says. A module of LATER in which nothing is wrong is told too, since it
+belongs there no more. Tested, not proved.
 """
 
 from __future__ import annotations
 
+import functools
 import importlib
 import inspect
+import pkgutil
 import sys
+import warnings
+from collections.abc import Iterator
 from pathlib import Path
+from typing import Any
 
 from numpydoc.validate import validate
 
-# The public modules whose functions have docstrings in numpydoc's form.
-MODULES = ("foldcairn", "foldcairn.planning", "foldcairn.results")
+PACKAGE = "foldcairn"
+# The public modules whose docstrings do not have numpydoc's form in all places yet.
+LATER = frozenset(
+    f"foldcairn.{name}" for name in ("packets", "page", "plan", "plot", "propagation", "receivers", "report", "requirements", "search", "studio")
+)
 # The checks of numpydoc that hold here. Left out are those of a manual's pages (an example, a "See Also", an extended summary), of where the
 # quotes are (GL01, GL02), of a summary's verb (SS05), and of how the text of "Returns" begins and ends (RT04, RT05), where columns are listed.
 CHECKS = {
@@ -48,21 +58,73 @@ CHECKS = {
 }
 
 
-def functions_of(module: str) -> list[str]:
-    """The full names of the functions that `__all__` of a module names."""
-    found = importlib.import_module(module)
-    return [f"{module}.{name}" for name in found.__all__ if inspect.isfunction(getattr(found, name))]
+# What is not asked of a class whose objects a call gives, and that no user makes: it has "Attributes" in place of "Parameters". Nor is it asked of
+# exceptions, which the package raises.
+NOT_OF_GIVEN = frozenset({"PR01"})
+
+
+def public_modules() -> list[str]:
+    """The modules that are public: the package and those directly below it with an `__all__`."""
+    package = importlib.import_module(PACKAGE)
+    below = sorted(f"{PACKAGE}.{one.name}" for one in pkgutil.iter_modules(package.__path__) if not one.name.startswith("_"))
+    return [PACKAGE, *(name for name in below if hasattr(importlib.import_module(name), "__all__"))]
+
+
+def names_of(module: str) -> dict[str, Any]:
+    """What `__all__` of a module names, by full names: functions, and classes of the package with their public methods and properties."""
+    found: dict[str, Any] = {}
+    home = importlib.import_module(module)
+    for name in home.__all__:
+        one = getattr(home, name)
+        if inspect.isfunction(one):
+            found[f"{module}.{name}"] = one
+        elif inspect.isclass(one) and one.__module__.startswith(PACKAGE):
+            found[f"{module}.{name}"] = one
+            found |= {f"{module}.{name}.{member}": value for member, value in members_of(one)}
+    return found
+
+
+def members_of(kind: type) -> Iterator[tuple[str, Any]]:
+    """The public methods and properties that a class itself has."""
+    for name, value in vars(kind).items():
+        # Fields, of which the docstring of the class tells, are descriptors too.
+        is_property = isinstance(value, (property, functools.cached_property))
+        if not name.startswith("_") and not inspect.isclass(value) and (is_property or callable(getattr(kind, name))):
+            yield name, value
+
+
+def wrong_in(name: str, one: Any) -> list[tuple[str, str, str]]:
+    """What is wrong in the docstring of an object: its name, the number of the check, and what that says."""
+    with warnings.catch_warnings():
+        # Of a section that it does not know numpydoc warns, and a check tells of it too.
+        warnings.simplefilter("ignore")
+        errors = [(name, code, text) for code, text in validate(name)["errors"] if code in CHECKS]
+    given = inspect.isclass(one) and (issubclass(one, BaseException) or "\n    Attributes\n" in (one.__doc__ or ""))
+    return [error for error in errors if not (given and error[1] in NOT_OF_GIVEN)]
 
 
 def main(words: list[str]) -> int:
-    """Checks the functions of these modules, and gives the exit status."""
-    names = [name for module in words or MODULES for name in functions_of(module)]
-    wrong = [(name, *error) for name in names for error in validate(name)["errors"] if error[0] in CHECKS]
-    for name, code, text in wrong:
-        print(f"tools/docstrings.py: {name}: {code} {text}")
-    if not names:
-        print("tools/docstrings.py: these modules name no function", file=sys.stderr)
-    return 1 if wrong or not names else 0
+    """Checks these modules, and gives the exit status."""
+    failed, count, seen = False, 0, set()
+    for module in words or public_modules():
+        wrong = []
+        for name, one in names_of(module).items():
+            # What several modules name is checked once.
+            if id(one) not in seen:
+                count += 1
+                wrong += wrong_in(name, one)
+            seen.add(id(one))
+        if module in LATER and not words:
+            if not wrong:
+                print(f"tools/docstrings.py: {module}: nothing is wrong in it, so take it out of LATER")
+            failed |= not wrong
+            continue
+        for name, code, text in wrong:
+            print(f"tools/docstrings.py: {name}: {code} {text}")
+        failed |= bool(wrong)
+    if not count:
+        print("tools/docstrings.py: these modules name nothing", file=sys.stderr)
+    return 1 if failed or not count else 0
 
 
 if __name__ == "__main__":

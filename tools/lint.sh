@@ -1,8 +1,8 @@
 #!/bin/sh
 # Checks what no test runs: the types of the Python package, the exporter and tools/reading by mypy --strict, unused and undefined names, forms and
 # line lengths of all Python by ruff, the shell scripts by shellcheck, and by tools/tidy.py what is too long in .rt and .antt files and
-# what crates.txt lists without need. The docstrings of the package's public functions are checked by numpydoc's validation, and
-# tools/docstrings.py says of which modules and by which checks. Debian 12 has no ruff: where it is missing, pyflakes and pycodestyle check
+# what crates.txt lists without need. The docstrings of what the package makes public are checked by numpydoc's validation, and
+# tools/docstrings.py says by which checks. Debian 12 has no ruff: where it is missing, pyflakes and pycodestyle check
 # the same rules (those of [tool.ruff.lint] in python/pyproject.toml). The modules of the planner's page are checked by tsc and eslint, where they
 # are there (Debian's node-typescript and eslint).
 #
@@ -39,7 +39,7 @@ else
     run "$python" -m pycodestyle --select=E4,E5,E7,E9,W1,W2,W3,W6 --max-line-length=160 --exclude=tools/calls.py,tools/words.py $sources
 fi
 
-# Docstrings of what `__all__` of the public modules names: foldcairn, foldcairn.planning and foldcairn.results.
+# Docstrings of what `__all__` of the public modules names: functions, and classes with their methods and properties.
 run "$python" tools/docstrings.py
 
 # The modules of the planner's page: their types and what is unused by tsc, and the rules of tools/eslint. eslint is told where Debian has its

@@ -20,8 +20,22 @@ Call = TypeVar("Call", bound=Callable[..., Any])
 
 
 def named(scenario: Scenario, table: pd.DataFrame) -> pd.DataFrame:
-    """The table with names in place of ids, or the table itself where the scenario has no names. A node without one is then named by its
-    id, as a text, so that all can be sorted; what is no node, as -1 for no host, stays."""
+    """A table with names in place of ids.
+
+    A node without a name is then named by its id, as a text, so that all can be sorted; what is no node, as -1 for no host, stays.
+
+    Parameters
+    ----------
+    scenario : Scenario
+        The scenario that has the names.
+    table : pandas.DataFrame
+        Its columns of ids, and its index, are known by their names, as `node` and `source`; it is not changed.
+
+    Returns
+    -------
+    pandas.DataFrame
+        A copy, or the table itself where the scenario has no names.
+    """
     if not scenario.labels:
         return table
     names = {node: scenario.name(node) for node in scenario.nodes}
@@ -53,6 +67,17 @@ def _has_scenario(given: Any) -> bool:
 
 
 def scenario_of(given: Any) -> Scenario:
-    """The scenario that is given, or that of the log that is given."""
+    """The scenario of what an answer is asked of.
+
+    Parameters
+    ----------
+    given : Scenario or results.Report
+        A scenario, or what has one.
+
+    Returns
+    -------
+    Scenario
+        That scenario itself, or its `scenario`.
+    """
     found: Scenario = given if isinstance(given, Scenario) else given.scenario
     return found

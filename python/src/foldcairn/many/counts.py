@@ -30,15 +30,25 @@ _LINES = {
 class Counts:
     """What is counted of each of some seeds.
 
-    seeds       the seeds, in their order
-    puts        a row for each seed, `source` and `stream` with a `put` line: how many packets were `put`, and of these `dropped`,
-                `sent`, `waiting` (at the end) and `cleared` (their queue was emptied)
-    hosted      a row for each seed, `source`, `stream` and `node`: `count` packets of the stream were sent in rounds that the node hosts
-    latencies   a row for each seed, `source`, `stream`, `node` and `frames`: `count` packets of the stream were delivered at the node in
-                the `frames`-th frame after that of their put
-    hosts       the same for those alone that were sent in rounds that the node hosts
-    cost        a row for each seed and `node`: `transmit_ticks`, `window_ticks` (planned for the windows of its rounds), and
-                `scanned_frames`, at whose start it searched for a host
+    Attributes
+    ----------
+    scenario : Scenario
+        The network.
+    seeds : tuple of int
+        The seeds, in their order.
+    puts : pandas.DataFrame
+        A row for each `seed`, `source` and `stream` with a `put` line: how many packets were `put`, and of these `dropped`, `sent`, `waiting` (at
+        the end) and `cleared` (their queue was emptied).
+    hosted : pandas.DataFrame
+        A row for each `seed`, `source`, `stream` and `node`: `count` packets of the stream were sent in rounds that the node hosts.
+    latencies : pandas.DataFrame
+        A row for each `seed`, `source`, `stream`, `node` and `frames`: `count` packets of the stream were delivered at the node in the
+        `frames`-th frame after that of their put.
+    hosts : pandas.DataFrame
+        The same for those alone that were sent in rounds that the node hosts.
+    cost : pandas.DataFrame
+        A row for each `seed` and `node`: `transmit_ticks`, `window_ticks` (planned for the windows of its rounds), both of 1/64 µs, and
+        `scanned_frames`, at whose start it searched for a host.
     """
 
     scenario: Scenario
@@ -55,20 +65,65 @@ class Counts:
 
 @dataclass(frozen=True)
 class Sampled(Drawing):
-    """A network and a seed of which the counts of `sample` are asked, for `sweep.sweep`: `planning.summary` and `sweep.summary` take them.
-    No lines of losses are drawn and no log is run, so runs may be as long as those of `results.outcome`."""
+    """A network and a seed of which the counts of `sample` are asked, for `sweep.sweep`.
+
+    `planning.summary` and `sweep.summary` take them. No lines of losses are drawn and no log is run, so runs may be as long as those of
+    `results.outcome`.
+
+    Parameters
+    ----------
+    scenario : Scenario
+        The network.
+    seed : int
+        The seed of the losses, 0 to 9,999,999,999,999.
+    """
 
     def result(self) -> Counts:
-        """The counts of the seed; raises what `of` raises."""
+        """What is measured of it by a sweep.
+
+        Returns
+        -------
+        Counts
+            The counts of the seed.
+
+        Raises
+        ------
+        program.ProgramError
+            As `of` does, which raises others too.
+        """
         return of(self.scenario, self.seed, 1)
 
 
 def of(scenario: Scenario, first: int, count: int, *, program: Path | None = None, timeout: float | None = None) -> Counts:
-    """The counts of `count` seeds, from `first` on, by one run of the program's `sample`: its losses are drawn from the reception
-    ratios of the scenario as the bus runs. A scenario without ratios, or whose losses are drawn, is the same for each seed. `timeout`
-    is in seconds of real time.
+    """The counts of some seeds, by one run of the program's `sample`.
 
-    Raises `ArgumentError` where a number is none or a seed is out of its range, and what `program.execute` raises.
+    Its losses are drawn from the reception ratios of the scenario as the bus runs. A scenario without ratios, or whose losses are drawn, is
+    the same for each seed.
+
+    Parameters
+    ----------
+    scenario : Scenario
+        The network.
+    first : int
+        The first seed, 0 to 9,999,999,999,999.
+    count : int
+        How many seeds there are, 1 or more.
+    program : path, optional
+        The program; that of `program.find_planner` without it.
+    timeout : float, optional
+        After how many seconds of real time it is ended.
+
+    Returns
+    -------
+    Counts
+        What was counted, by seed.
+
+    Raises
+    ------
+    ArgumentError
+        Where a number is none or a seed is out of its range.
+    program.ProgramError
+        As `program.execute` does.
     """
     first = arguments.whole("first", first, 0, lines.SEED_MOST)
     count = arguments.whole("count", count, 1, lines.SEED_MOST + 1 - first)

@@ -22,10 +22,24 @@ from ..common import arguments
 
 
 def of_mean(values: ArrayLike, confidence: float = 0.95) -> tuple[float, float, float]:
-    """The mean of values that were drawn independently, and the ends of the interval that has the true mean with this
-    confidence (0 to 1). Values that are not numbers (NaN) are left out; the ends are missing for fewer than two values.
+    """The mean of values that were drawn independently, and the interval that has the true mean with a confidence.
 
-    Raises `ArgumentError` where the confidence is not between 0 and 1.
+    Parameters
+    ----------
+    values : array
+        The values; those that are not numbers (NaN) are left out.
+    confidence : float
+        The confidence, between 0 and 1.
+
+    Returns
+    -------
+    tuple of float
+        The mean, and the lower and the upper end; the ends are missing for fewer than two values, and the mean for none.
+
+    Raises
+    ------
+    ArgumentError
+        Where the confidence is not between 0 and 1.
     """
     share = arguments.real("confidence", confidence, 0, 1, above=0)
     known = _known(values)
@@ -95,8 +109,22 @@ def over_seeds(
 
 
 def of_share(share: ArrayLike, packets: ArrayLike, confidence: float = 0.95) -> tuple[NDArray[np.float64], NDArray[np.float64]]:
-    """The ends of the interval that has the true share with this confidence, where this share of so many packets was counted, each for
-    itself: that of Clopper and Pearson."""
+    """The interval of Clopper and Pearson that has a true share with a confidence.
+
+    Parameters
+    ----------
+    share : array
+        The part that was counted, 0 to 1.
+    packets : array
+        Of how many packets, each for itself.
+    confidence : float
+        The confidence, between 0 and 1.
+
+    Returns
+    -------
+    tuple of numpy.ndarray
+        The lower and the upper ends, 0 to 1.
+    """
     # The function `proportion_confint` of statsmodels calls the same, and to load it takes longer than most answers.
     from scipy import special
 
@@ -109,8 +137,20 @@ def of_share(share: ArrayLike, packets: ArrayLike, confidence: float = 0.95) -> 
 
 
 def packets_to_show(share: float) -> int:
-    """How many packets have to arrive, and all of them, to show with 95 % that no less than this share does: by the rule of three, 3,000
-    for 99.9 %."""
+    """How many packets have to arrive, and all of them, to show with 95 % that no less than a share does.
+
+    It is the rule of three: 3,000 for 99.9 %.
+
+    Parameters
+    ----------
+    share : float
+        The share, 0 to below 1.
+
+    Returns
+    -------
+    int
+        The number of packets.
+    """
     return round(3 / (1 - share))
 
 
@@ -120,12 +160,22 @@ _QUANTILES = {"least": 0.0, "p5": 0.05, "p50": 0.5, "p95": 0.95, "greatest": 1.0
 
 
 def chance(changes: ArrayLike) -> float:
-    """How likely a mean so far from 0 would be if the true mean were 0, by Student's distribution: 0 to 1, and missing for
-    fewer than two values.
+    """How likely a mean so far from 0 would be if the true mean were 0, by Student's distribution.
 
     Values that are all the same have no spread to judge them by. Where they are 0 the chance is 1. Where they are not, it is that of
     the sign test: that so many values lie on one side of 0, 2^(1 - n) for n values. It is missing for fewer than six values, of which the
-    test can't find any change."""
+    test can't find any change.
+
+    Parameters
+    ----------
+    changes : array
+        The values; those that are not numbers (NaN) are left out.
+
+    Returns
+    -------
+    float
+        It is 0 to 1, and missing for fewer than two values.
+    """
     known = _known(changes)
     if len(known) < 2:
         return float("nan")
@@ -139,8 +189,20 @@ def chance(changes: ArrayLike) -> float:
 
 
 def adjusted(chances: Iterable[float]) -> list[float]:
-    """Chances of several changes that are looked at together, by Holm's method: with a bound of 0.05 on these, in 5 % of all
-    tables in which nothing changes one change at most is called real. What is missing stays missing."""
+    """Chances of several changes that are looked at together, by Holm's method.
+
+    With a bound of 0.05 on these, in 5 % of all tables in which nothing changes one change at most is called real.
+
+    Parameters
+    ----------
+    chances : iterable of float
+        The chances of the single changes, 0 to 1.
+
+    Returns
+    -------
+    list of float
+        The chances in the same order; what is missing stays missing.
+    """
     from statsmodels.stats.multitest import multipletests
 
     values = np.array(list(chances), dtype=np.float64)
@@ -151,10 +213,28 @@ def adjusted(chances: Iterable[float]) -> list[float]:
 
 
 def means(table: pd.DataFrame, by: str | Sequence[str], columns: Sequence[str], confidence: float = 0.95) -> pd.DataFrame:
-    """The means of a sweep's columns over its seeds: a row for each value of `by`, and for each column its mean, and its ends
-    `.._low` and `.._high` (`of_mean`); `cases` counts the rows.
+    """The means of a sweep's columns over its seeds.
 
-    Raises `ArgumentError` where a column is missing.
+    Parameters
+    ----------
+    table : pandas.DataFrame
+        The table of a sweep.
+    by : str or sequence of str
+        The columns whose values have a row each.
+    columns : sequence of str
+        The columns whose means are asked.
+    confidence : float
+        The confidence, between 0 and 1.
+
+    Returns
+    -------
+    pandas.DataFrame
+        A row for each value of `by`: `cases` counts its rows, and each column has its mean, and the ends `.._low` and `.._high` (`of_mean`).
+
+    Raises
+    ------
+    ArgumentError
+        Where a column is missing.
     """
     keys = [by] if isinstance(by, str) else list(by)
     if lacking := [name for name in (*keys, *columns) if name not in table]:

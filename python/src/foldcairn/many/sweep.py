@@ -37,22 +37,68 @@ _LASTING = (program.Refused, program.BadUsage, program.BadWords, TooManyLosses)
 
 
 class SweepStopped(Exception):
-    """The executor broke down, as where a worker was killed, a cluster lost it or a call was cancelled. The results so far are kept where
-    a folder was given, and the next call goes on from there."""
+    """The executor broke down, as where a worker was killed, a cluster lost it or a call was cancelled.
+
+    The results so far are kept where a folder was given, and the next call goes on from there.
+    """
 
 
 def grid(**values: Iterable[Any]) -> list[dict[str, Any]]:
-    """A case for each combination of the values: `grid(contend=[3, 4], seed=range(10))` has 20."""
+    """A case for each combination of some values.
+
+    `grid(contend=[3, 4], seed=range(10))` has 20.
+
+    Parameters
+    ----------
+    **values : iterable
+        By the name of each parameter its values.
+
+    Returns
+    -------
+    list of dict
+        The cases; the last parameter changes first.
+    """
     return [dict(zip(values, combination)) for combination in itertools.product(*values.values())]
 
 
 def files(folder: str | os.PathLike[str], pattern: str = "*.scenario") -> list[dict[str, str]]:
-    """A case `{"file": path}` for each file of the folder that fits the pattern, by name; `from_file` builds these."""
+    """A case for each file of a folder; `from_file` builds these.
+
+    Parameters
+    ----------
+    folder : path
+        The folder.
+    pattern : str
+        Which files are taken, as a pattern of `pathlib.Path.glob`.
+
+    Returns
+    -------
+    list of dict
+        `{"file": path}` for each, by name.
+    """
     return [{"file": str(path)} for path in sorted(Path(folder).glob(pattern))]
 
 
 def from_file(file: str) -> str:
-    """The text of a file. Raises `OSError` where it can't be read, and `UnicodeDecodeError` where it is not UTF-8."""
+    """The text of a file, as what builds the cases of `files`.
+
+    Parameters
+    ----------
+    file : str
+        Its path.
+
+    Returns
+    -------
+    str
+        All of it.
+
+    Raises
+    ------
+    OSError
+        Where it can't be read.
+    UnicodeDecodeError
+        Where it is not UTF-8.
+    """
     return Path(file).read_text(encoding="utf-8")
 
 
@@ -64,10 +110,22 @@ def text_of(scenario: Scenario | str) -> str:
 def summary(scenario: Scenario | str | Counts) -> dict[str, int]:
     """What `run` gives in sums.
 
-    `deliveries` and `drops` count lines; `sent_ticks` and `on_ticks` are for how many ticks of 1/64 µs all nodes together
-    transmitted and had their radios on. Of counts (`counts.Sampled`), which no clock has a part in, there are `window_ticks` and
-    `scanned_frames` in place of `on_ticks`: the ticks that are planned for windows, and the frames at whose start a node searched. Raises
-    what `program.execute` raises.
+    Parameters
+    ----------
+    scenario : Scenario, str or counts.Counts
+        What is run, or what was counted of it.
+
+    Returns
+    -------
+    dict
+        `deliveries` and `drops` count lines; `sent_ticks` and `on_ticks` are for how many ticks of 1/64 µs all nodes together transmitted and had
+        their radios on. Of counts (`counts.Sampled`), which no clock has a part in, there are `window_ticks` and `scanned_frames` in place of
+        `on_ticks`: the ticks that are planned for windows, and the frames at whose start a node searched.
+
+    Raises
+    ------
+    program.ProgramError
+        As `program.execute` does.
     """
     if isinstance(scenario, Counts):
         cost = scenario.cost
@@ -106,17 +164,7 @@ def sweep(
     progress: bool | TextIO = True,
     name: str | None = None,
 ) -> pandas.DataFrame:
-    """Builds, runs and measures each case, and gives one table: the columns of the case, `status`, then what was measured.
-
-    build      called with a case's parameters by name, gives its scenario or text, or a `losses.Drawing`, whose losses are drawn
-               once it is known that its result is not there; parameters are numbers, words and such
-    measure    takes what was built, a drawn scenario for a `Drawing`, a report for a `losses.Outcome` and counts for a `counts.Sampled`, and
-               gives a mapping for a row, or a DataFrame for several rows
-    executor   runs the cases, also a client of `distributed`; without one a process for each processor. The functions must be importable
-               there
-    results    a folder that keeps each result as soon as it is there; a later call takes what is there, and makes the rest
-    progress   a bar on standard error or on the stream that is given, a line a minute where that is no terminal; False: none
-    name       a name for the measure, by which results are kept instead of by its name and source
+    """Builds, runs and measures each case, and gives one table.
 
     A result is kept by its parameters, the text of the scenario with its ratios, its receivers, the kind and seed of a drawing, the
     measure by its name and source, the program's checksum and the version of this package (`kept`). So each case is built again, and
@@ -124,10 +172,41 @@ def sweep(
     `name` after a change there. What is measured may be numbers, words, times, what is missing, and lists, tuples, sets and mappings of such;
     a result with anything else is in the table, and not kept, of which a warning tells.
 
-    `status` is `ok`, or the name of an exception, and then `message` says what it says. A case whose text is rejected, or whose
-    losses don't fit a text, keeps that; one that ended otherwise, as for lack of memory, is made again by the next call. The
-    table has the versions of `program.versions` in its `attrs`. Raises `SweepStopped` where the executor breaks down, and
-    `ValueError` where a case comes twice or has no plain parameters. Stopped by Ctrl-C it loses nothing of what is in `results`.
+    A case whose text is rejected, or whose losses don't fit a text, keeps that; one that ended otherwise, as for lack of memory, is made again by
+    the next call. Stopped by Ctrl-C it loses nothing of what is in `results`.
+
+    Parameters
+    ----------
+    build : callable
+        Called with a case's parameters by name, it gives the scenario or its text, or a `losses.Drawing`, whose losses are drawn once it is known
+        that its result is not there.
+    cases : iterable of mapping
+        The parameters of each case: numbers, words and such.
+    measure : callable
+        It takes what was built, a drawn scenario for a `Drawing`, a report for a `losses.Outcome` and counts for a `counts.Sampled`, and gives a
+        mapping for a row, or a DataFrame for several rows.
+    executor : concurrent.futures.Executor, optional
+        It runs the cases; a client of `distributed` may be given too. Without one there is a process for each processor. The functions must be
+        importable there.
+    results : path, optional
+        A folder that keeps each result as soon as it is there; a later call takes what is there, and makes the rest.
+    progress : bool or file
+        A bar on standard error or on the stream that is given, a line a minute where that is no terminal; False: none.
+    name : str, optional
+        A name for the measure, by which results are kept in place of its name and source.
+
+    Returns
+    -------
+    pandas.DataFrame
+        The columns of the case, `status`, then what was measured. `status` is `ok`, or the name of an exception, and then `message` says what it
+        says. The table has the versions of `program.versions` in its `attrs`.
+
+    Raises
+    ------
+    SweepStopped
+        Where the executor breaks down.
+    ValueError
+        Where a case comes twice or has no plain parameters.
     """
     listed = [dict(case) for case in cases]
     names = _names(listed)

@@ -57,38 +57,69 @@ def _real(name: str, value: Any, low: float | None = None, *, above: float | Non
 
 @dataclass
 class Scenario:
-    """One scenario.
-
-    frames    how many frames the run has, 1 to 4,096; nodes times frames is at most 16,384 for `run` and `log`, of which a
-              `ScenarioWarning` tells as soon as it is more, and 262,144 for `results.outcome`
-    sends     how often a node transmits at most in one flood, 1 to 4
-    profile   1 (frames of 4 s, slots of 33 ms, payloads of 32 bytes) or 2 (5 s, 56 ms, 96 bytes)
-    contend   contention slots that schedules name, 1 to 4, in profile 2; 0 for no `contend` line, which is one slot
-    nodes     id (1 to 200) -> clock offset in ticks of 1/64 µs (0 to 256,000)
-    rates     clock drifts, in any order
-    hosts     rank (0 to 3) -> id
-    links     directed: (u, v) says that what u sends reaches v
-    prr       reception ratio, 0 to 1, of links that have less than 1 from the start of the run on; `losses.draw` and
-              `results.outcome` draw losses by it, and no scenario text has it (`network_text` has)
-    ratios    (frame, u, v) -> the reception ratio of that link from that frame on, where it changes (`ratio` sets it)
-    losses, cuts, captures   single losses of links, of nodes, and receptions in spite of a collision
-    script    what happens by frame; `text` sorts it by frames and keeps the order within a frame
-
-    What follows is for the answers about a run, and the program does not know it. A text has it as comments, and the times of
-    puts that were given in seconds, but for `remarks`.
-    receivers   for whom packets are meant, in the forms of `foldcairn.receivers` (`sinks` sets it); None: for all nodes
-    keep_alive  the streams that are kept alive by packets of no bytes (`stream(.., keep_alive=..)`), which no answer counts
-    labels      id -> name, where nodes have names: tables and pictures show them in place of the ids, and calls take them
-    places      id -> (x, y), the places of nodes for maps, in any unit, upwards; a map is laid out by the links where a node has none
-    remarks     what was left in doubt as it was built, in sentences; `cautions` has them too
-    seed        by which `losses.draw` has drawn the losses; None: by none
-    drawn       those of the `losses` that were drawn; the others are its own (`undrawn`)
-    told        whether the length of the run was told already, where it is too long for a log
+    """A network, and what happens in a run of it.
 
     The methods that build return the scenario, so calls can be chained. Each takes its time as a frame or in seconds. What is given in
     seconds takes effect at the start of the first frame that starts then or later; a node goes off, and a ratio falls, in the frame
     that the time lies in (`foldcairn.model.moments` says why). They raise `ScenarioError` where a value is out of its range, no frame of the
     run is left for a time, or a node is not given.
+
+    What follows `script` is for the answers about a run, and the program does not know it. A text has it as comments, and the times of
+    puts that were given in seconds, but for `remarks`.
+
+    Parameters
+    ----------
+    frames : int
+        How many frames the run has, 1 to 4,096. Nodes times frames is at most 16,384 for `run` and `log`, of which a `ScenarioWarning` tells as
+        soon as it is more, and 262,144 for `results.outcome`.
+    sends : int
+        How often a node transmits at most in one flood, 1 to 4.
+    profile : int
+        It is 1 (frames of 4 s, slots of 33 ms, payloads of 32 bytes) or 2 (5 s, 56 ms, 96 bytes).
+    contend : int
+        Contention slots that schedules name, 1 to 4, in profile 2; 0 for no `contend` line, which is one slot.
+    nodes : dict
+        By id (1 to 200) the clock's offset in ticks of 1/64 µs (0 to 256,000).
+    rates : list of Rate
+        Clock drifts, in any order.
+    hosts : dict
+        By rank (0 to 3) the id of the host.
+    links : set
+        Pairs of ids: (u, v) says that what u sends reaches v, and nothing of the other direction.
+    prr : dict
+        By link the reception ratio, 0 to 1, where it is less than 1 from the start of the run on; `losses.draw` and `results.outcome` draw
+        losses by it, and no scenario text has it (`network_text` has).
+    ratios : dict
+        By (frame, u, v) the reception ratio of that link from that frame on, where it changes (`ratio` sets it).
+    losses : list of Loss
+        Single losses of links.
+    cuts : list of Cut
+        Losses of all links of a node.
+    captures : list of Capture
+        Receptions in spite of a collision.
+    script : list of ScriptLine
+        What happens by frame; `text` sorts it by frames and keeps the order within a frame.
+    receivers : optional
+        For whom packets are meant, in the forms of `foldcairn.receivers` (`sinks` sets it); None: for all nodes.
+    keep_alive : set
+        The streams, by node and number, that are kept alive by packets of no bytes (`stream(.., keep_alive=..)`), which no answer counts.
+    labels : dict
+        By id the name, where nodes have names: tables and pictures show them in place of the ids, and calls take them.
+    places : dict
+        By id the place (x, y) on maps, in any unit, upwards; a map is laid out by the links where a node has none.
+    remarks : list of str
+        What was left in doubt as it was built, in sentences; `cautions` has them too.
+    seed : int, optional
+        By which `losses.draw` has drawn the losses; None: by none.
+    drawn : set of Loss
+        Those of the `losses` that were drawn; the others are its own (`undrawn`).
+    told : bool
+        Whether the length of the run was told already, where it is too long for a log.
+
+    Raises
+    ------
+    ScenarioError
+        Where a number is out of its range, `contend` is given in profile 1, or a ratio is not from 0 to 1.
     """
 
     frames: int
@@ -142,7 +173,13 @@ class Scenario:
         return self
 
     def check_ratios(self) -> None:
-        """Raises `ScenarioError` where a ratio of `prr` or `ratios` is not from 0 to 1, as one that is not a number (NaN)."""
+        """Raises an error where a ratio of `prr` or `ratios` is not from 0 to 1, as one that is not a number (NaN).
+
+        Raises
+        ------
+        ScenarioError
+            Where one is; it is named with its link.
+        """
         for (sender, receiver), ratio in self.prr.items():
             self._ratio(sender, receiver, ratio)
         for (_, sender, receiver), ratio in self.ratios.items():
@@ -173,12 +210,40 @@ class Scenario:
         return max(1, self.contend)
 
     def frame_at(self, seconds: float) -> int:
-        """The frame that this time, in seconds from the start of the run, lies in. Raises `ScenarioError` where it is no number."""
+        """The frame that a time lies in.
+
+        Parameters
+        ----------
+        seconds : float
+            From the start of the run; it may lie before or after it.
+
+        Returns
+        -------
+        int
+            The frame, from 0 on; below 0 before the run.
+
+        Raises
+        ------
+        ScenarioError
+            Where the time is no finite number.
+        """
         return moments.frame_of(_real("seconds", seconds), self.frame_seconds)
 
     def put_seconds(self, put: Put) -> float:
-        """When a put was given, in seconds from the start of the run: at most a frame before it is handed over, at the start of its frame.
-        One that was given as a frame was given then, and so was one whose time another frame would take by now."""
+        """When a put was given, at most a frame before it is handed over, at the start of its frame.
+
+        One that was given as a frame was given then, and so was one whose time another frame would take by now.
+
+        Parameters
+        ----------
+        put : Put
+            A line of the script.
+
+        Returns
+        -------
+        float
+            Seconds from the start of the run.
+        """
         if put.seconds is not None and moments.frame_from(put.seconds, self.frame_seconds) == put.frame:
             return put.seconds
         return float(put.frame * self.frame_seconds)
@@ -242,7 +307,27 @@ class Scenario:
     # Building.
 
     def node(self, node: int, offset: int = 0, ppm: int = 0) -> Self:
-        """A node whose clock reads `offset` ticks of 1/64 µs at the start and gains `ppm` parts per million (-20 to 20)."""
+        """Adds a node; it comes before all that names it.
+
+        Parameters
+        ----------
+        node : int
+            Its id, 1 to 200.
+        offset : int
+            What its clock reads at the start, in ticks of 1/64 µs, 0 to 256,000.
+        ppm : int
+            What its clock gains from the start on, in parts per million, -20 to 20.
+
+        Returns
+        -------
+        Scenario
+            This scenario, so that calls can be chained.
+
+        Raises
+        ------
+        ScenarioError
+            Where the id is given already, or a number is out of its range.
+        """
         node, offset = self._numbers("node", node, offset)
         if node in self.nodes:
             raise ScenarioError(f"node {node} is given already")
@@ -251,7 +336,29 @@ class Scenario:
         return self.rate(node, ppm) if ppm != 0 else self
 
     def rate(self, node: Node, ppm: int, *, tick: int | None = None, seconds: float | None = None) -> Self:
-        """From that tick (1/64 µs of true time, 0 without one) or second on the node's clock gains `ppm` parts per million."""
+        """Changes what a clock gains from a time on.
+
+        Parameters
+        ----------
+        node : int or str
+            The node, by its id or its name.
+        ppm : int
+            What its clock gains from then on, in parts per million, -20 to 20.
+        tick : int, optional
+            The time in ticks of 1/64 µs of true time from the start of the run; without any time it is the start.
+        seconds : float, optional
+            The time in seconds, in place of a tick.
+
+        Returns
+        -------
+        Scenario
+            This scenario, so that calls can be chained.
+
+        Raises
+        ------
+        ScenarioError
+            Where both times are given, the node is not given, or a number is out of its range.
+        """
         if tick is not None and seconds is not None:
             raise ScenarioError("a time is given as a tick or in seconds, not as both")
         at = round(_real("seconds", seconds) * 64_000_000) if seconds is not None else 0 if tick is None else tick
@@ -260,7 +367,25 @@ class Scenario:
         return self
 
     def host(self, rank: int, node: Node) -> Self:
-        """The node is the host of that rank: 0 is the first choice, 1 to 3 are backups."""
+        """Makes a node the host of a rank.
+
+        Parameters
+        ----------
+        rank : int
+            Its rank: 0 is the first choice, 1 to 3 are backups.
+        node : int or str
+            The node, by its id or its name.
+
+        Returns
+        -------
+        Scenario
+            This scenario, so that calls can be chained.
+
+        Raises
+        ------
+        ScenarioError
+            Where the rank has a host, the node hosts already or is not given, or the rank is none.
+        """
         rank, node = self._numbers("host", rank, node)
         if rank in self.hosts or node in self.hosts.values():
             raise ScenarioError(f"`host {rank} {node}`: rank {rank} or node {node} hosts already")
@@ -268,7 +393,27 @@ class Scenario:
         return self
 
     def link(self, sender: Node, receiver: Node, prr: float = 1.0) -> Self:
-        """What the sender transmits reaches the receiver, at the ratio `prr` of 0 to 1."""
+        """Adds a link of one direction, or changes its ratio from the start of the run on.
+
+        Parameters
+        ----------
+        sender : int or str
+            The node that transmits, by its id or its name.
+        receiver : int or str
+            The node that receives, by its id or its name.
+        prr : float
+            Which part of the transmissions reaches the receiver, 0 to 1.
+
+        Returns
+        -------
+        Scenario
+            This scenario, so that calls can be chained.
+
+        Raises
+        ------
+        ScenarioError
+            Where a node is not given, both are the same, or the ratio is out of its range.
+        """
         sender, receiver = self._numbers("link", sender, receiver)
         ratio = self._ratio(sender, receiver, prr)
         self.links.add((sender, receiver))
@@ -279,17 +424,60 @@ class Scenario:
         return self
 
     def pair(self, one: Node, other: Node, prr: float = 1.0) -> Self:
-        """Both links between two nodes, each at the ratio `prr` of 0 to 1."""
+        """Adds the links of both directions between two nodes.
+
+        Parameters
+        ----------
+        one : int or str
+            The first node, by its id or its name.
+        other : int or str
+            The second one.
+        prr : float
+            The ratio of each of the links, 0 to 1.
+
+        Returns
+        -------
+        Scenario
+            This scenario, so that calls can be chained.
+
+        Raises
+        ------
+        ScenarioError
+            Where `link` raises it.
+        """
         return self.link(one, other, prr).link(other, one, prr)
 
     def ratio(
         self, sender: Node, receiver: Node, prr: float, *, frame: int | None = None, seconds: float | None = None
     ) -> Self:
-        """From that time on (from the start of the run without one), until a later ratio of it, this link passes what the sender
-        transmits at the ratio `prr` of 0 to 1, which counts in millionths, rounded. The other direction keeps its own.
+        """Changes the reception ratio of a link of one direction from a time on, until a later ratio of it.
 
         A time in seconds within a frame counts for that frame where the ratio is lower than the one in force, else for the next one: so
-        each frame has the least ratio of its time. Give the ratios of a link in the order of their times."""
+        each frame has the least ratio of its time. Give the ratios of a link in the order of their times.
+
+        Parameters
+        ----------
+        sender : int or str
+            The node that transmits, by its id or its name.
+        receiver : int or str
+            The node that receives, by its id or its name.
+        prr : float
+            The ratio, 0 to 1, which counts in millionths, rounded.
+        frame : int, optional
+            The frame, from 0 on and within the run.
+        seconds : float, optional
+            The time in seconds from the start of the run, in place of a frame. Without any time it is the start.
+
+        Returns
+        -------
+        Scenario
+            This scenario, so that calls can be chained.
+
+        Raises
+        ------
+        ScenarioError
+            Where there is no such link, both times are given, or a value is out of its range.
+        """
         ratio = self._ratio(sender, receiver, prr)
         within = self._frame("ratio", frame, seconds, moments.frame_of)
         at, sender, receiver, _ = self._numbers("ratio", within, sender, receiver, millionths(ratio))
@@ -308,13 +496,36 @@ class Scenario:
         return self
 
     def ratio_lines(self) -> list[Ratio]:
-        """All reception ratios of its links, by the frames from which on they hold; a link that loses nothing at the start has none of
-        frame 0."""
+        """All reception ratios of its links.
+
+        Returns
+        -------
+        list of Ratio
+            By the frames from which on they hold; a link that loses nothing at the start has none of frame 0.
+        """
         first = [Ratio(0, *link, ratio) for link, ratio in self.prr.items() if link in self.links]
         return sorted(first + [Ratio(*place, ratio) for place, ratio in self.ratios.items() if place[1:] in self.links])
 
     def prr_at(self, *, frame: int | None = None, seconds: float | None = None) -> dict[Link, float]:
-        """The reception ratios in force at that time, of links that have less than 1 then."""
+        """The reception ratios that are in force at a time.
+
+        Parameters
+        ----------
+        frame : int, optional
+            The frame, from 0 on and within the run.
+        seconds : float, optional
+            The time in seconds from the start of the run, in place of a frame. Without any time it is the start.
+
+        Returns
+        -------
+        dict
+            By (sender, receiver) the ratio of each link that has less than 1 then.
+
+        Raises
+        ------
+        ScenarioError
+            Where both times are given, or the time is no finite number.
+        """
         if frame is not None and seconds is not None:
             raise ScenarioError("a time is given as a frame or in seconds, not as both")
         at, found = self.frame_at(seconds) if seconds is not None else frame or 0, {link: 1.0 for link in self.links}
@@ -327,7 +538,13 @@ class Scenario:
         return self.seed is None and bool(self.ratio_lines())
 
     def script_lines(self) -> int:
-        """How many script lines it has: its rates, what its nodes have to do, its losses, cuts and captures."""
+        """How many script lines it has.
+
+        Returns
+        -------
+        int
+            The number of its rates, of the lines of `script`, and of its losses, cuts and captures.
+        """
         written: tuple[Sized, ...] = (self.rates, self.script, self.losses, self.cuts, self.captures)
         return sum(map(len, written))
 
@@ -337,8 +554,13 @@ class Scenario:
         return len(self.nodes) * self.frames <= lines.NODE_FRAMES_MOST and self.script_lines() <= lines.SCRIPT_LINES_MOST
 
     def undrawn(self) -> Self:
-        """The network that this scenario was before its losses were drawn, to draw them anew: without the losses of its seed, and with
-        its own. Where none were drawn it is this scenario itself."""
+        """The network that this scenario was before its losses were drawn, to draw them anew.
+
+        Returns
+        -------
+        Scenario
+            A copy without the losses of its seed, and with its own; this scenario itself where none were drawn.
+        """
         if self.seed is None:
             return self
         made = self.copy()
@@ -347,20 +569,61 @@ class Scenario:
         return made
 
     def by_seed(self) -> Callable[[int], Scenario] | None:
-        """What gives the network of a seed, where seeds draw more than the losses, as those of a plan do; else None."""
+        """What gives the network of a seed, where seeds draw more than the losses, as those of a plan do.
+
+        Returns
+        -------
+        callable or None
+            It takes a seed and gives a scenario; None where seeds draw the losses alone.
+        """
         return None
 
     def of_seed(self, seed: int) -> Scenario:
-        """The network of a seed, without its losses: this one, where seeds draw nothing else."""
+        """The network of a seed, without its losses.
+
+        Parameters
+        ----------
+        seed : int
+            The seed, 0 to 9,999,999,999,999.
+
+        Returns
+        -------
+        Scenario
+            This scenario itself, where seeds draw nothing but the losses.
+        """
         varied = self.by_seed()
         return self if varied is None else varied(seed)
 
     def varied_by(self) -> str:
-        """What tells from each other that by which seeds draw more than the losses; an empty text where they do not."""
+        """What tells from each other that by which seeds draw more than the losses.
+
+        Returns
+        -------
+        str
+            A checksum; an empty text where they do not.
+        """
         return ""
 
     def unlink(self, one: Node, other: Node) -> Self:
-        """Takes out the links between two nodes, in both directions, and their ratios, losses and captures."""
+        """Takes out the links between two nodes, in both directions, and their ratios, losses and captures.
+
+        Parameters
+        ----------
+        one : int or str
+            The first node, by its id or its name.
+        other : int or str
+            The second one; there may be no link between them.
+
+        Returns
+        -------
+        Scenario
+            This scenario, so that calls can be chained.
+
+        Raises
+        ------
+        ScenarioError
+            Where a node is not given.
+        """
         one, other = self.id(one), self.id(other)
         gone = {(one, other), (other, one)}
         self.links -= gone
@@ -371,8 +634,27 @@ class Scenario:
         return self
 
     def on(self, *nodes: Node, frame: int | None = None, seconds: float | None = None) -> Self:
-        """These nodes, or all that are given so far, are switched on at the start of that frame (0 without a time), or of the first that
-        starts at that time or after it."""
+        """Switches nodes on at the start of a frame, or of the first that starts at a time or after it.
+
+        Parameters
+        ----------
+        *nodes : int or str
+            The nodes, by ids or names; without any all that are given so far.
+        frame : int, optional
+            The frame, from 0 on and within the run.
+        seconds : float, optional
+            The time in seconds from the start of the run, in place of a frame. Without any time it is the start.
+
+        Returns
+        -------
+        Scenario
+            This scenario, so that calls can be chained.
+
+        Raises
+        ------
+        ScenarioError
+            Where a node is not given, both times are given, or the time is not in the run.
+        """
         at = self._frame("on", frame, seconds)
         for node in nodes or sorted(self.nodes):
             at, node = self._numbers("on", at, node)
@@ -380,9 +662,29 @@ class Scenario:
         return self
 
     def off(self, *nodes: Node, frame: int | None = None, seconds: float | None = None) -> Self:
-        """These nodes, or all that are given so far, are switched off at the start of that frame (0 without a time), or of the frame that
-        the time lies in: never later than the failure. One that came on earlier in that frame, which counts from the next frame on, goes
-        off with the next frame too."""
+        """Switches nodes off at the start of a frame, or of the one that a time lies in: never later than the failure.
+
+        One that came on earlier in that frame, which counts from the next frame on, goes off with the next frame too.
+
+        Parameters
+        ----------
+        *nodes : int or str
+            The nodes, by ids or names; without any all that are given so far.
+        frame : int, optional
+            The frame, from 0 on and within the run.
+        seconds : float, optional
+            The time in seconds from the start of the run, in place of a frame. Without any time it is the start.
+
+        Returns
+        -------
+        Scenario
+            This scenario, so that calls can be chained.
+
+        Raises
+        ------
+        ScenarioError
+            Where a node is not given, both times are given, or the time is not in the run.
+        """
         at = self._frame("off", frame, seconds, moments.frame_of)
         for node in nodes or sorted(self.nodes):
             _, node = self._numbers("off", at, node)
@@ -397,12 +699,36 @@ class Scenario:
         self, node: Node, interval: int, *, stream: int = 0, frame: int | None = None, seconds: float | None = None,
         keep_alive: float | None = None,
     ) -> Self:  # fmt: skip
-        """Stream 0 to 3 of the node requests a slot every `interval` seconds (1 to 120) from that frame on, or from the first that starts at
-        that time or after it.
+        """A stream of a node requests slots from a frame on, or from the first that starts at a time or after it.
 
         A host takes a stream away whose slots stayed empty 16 times in a row, some 16 intervals, and the next packet has to ask
-        for it anew. With `keep_alive` the stream gets a packet of no bytes that often, in seconds, to the end of the run; take
-        less than 16 intervals. Planning answers leave these packets out.
+        for it anew.
+
+        Parameters
+        ----------
+        node : int or str
+            The node, by its id or its name.
+        interval : int
+            How often it requests a slot, in seconds, 1 to 120.
+        stream : int
+            The number of the stream, 0 to 3.
+        frame : int, optional
+            The frame, from 0 on and within the run.
+        seconds : float, optional
+            The time in seconds from the start of the run, in place of a frame. Without any time it is the start.
+        keep_alive : float, optional
+            How often the stream gets a packet of no bytes, in seconds, to the end of the run, so that it is not taken away; take less than 16
+            intervals. Answers of planning leave these packets out.
+
+        Returns
+        -------
+        Scenario
+            This scenario, so that calls can be chained.
+
+        Raises
+        ------
+        ScenarioError
+            Where the node is not given, both times are given, or a value is out of its range.
         """
         asked = Stream(*self._numbers("stream", self._frame("stream", frame, seconds), node, stream, interval))
         self.script.append(asked)
@@ -413,10 +739,23 @@ class Scenario:
         return self
 
     def sinks(self, *receivers: Any) -> Self:
-        """For whom packets are meant where an answer is not told otherwise: some nodes, by id or name; "hosts", whichever host
-        serves; "all"; or a dictionary with one of these for each source (`foldcairn.receivers` has the forms).
+        """For whom packets are meant where an answer is not told otherwise.
 
-        Raises `ScenarioError` where a node is not given; nodes come before.
+        Parameters
+        ----------
+        *receivers : int, str or dict
+            Some nodes, by ids or names, which come before; "hosts", whichever host serves; "all"; or a dictionary with one of these for each source
+            (`foldcairn.receivers` has the forms).
+
+        Returns
+        -------
+        Scenario
+            This scenario, so that calls can be chained.
+
+        Raises
+        ------
+        ScenarioError
+            Where a node is not given, or a word is none of these.
         """
         from .receivers import meant
 
@@ -430,7 +769,23 @@ class Scenario:
         return self
 
     def id(self, node: int | str) -> int:
-        """The id of a node, which is given by its id or its name. Raises `ScenarioError` where there is no such node."""
+        """The id of a node.
+
+        Parameters
+        ----------
+        node : int or str
+            The node, by its id or its name.
+
+        Returns
+        -------
+        int
+            Its id, 1 to 200.
+
+        Raises
+        ------
+        ScenarioError
+            Where there is no such node.
+        """
         named = {name: one for one, name in self.labels.items()}
         # A name may have digits alone, and come as a number.
         found = named.get(str(node), node) if isinstance(node, str) or node not in self.nodes else node
@@ -441,23 +796,94 @@ class Scenario:
         return int(found)
 
     def name(self, node: int) -> str:
-        """The name of a node, which is its id where it has none."""
+        """The name of a node.
+
+        Parameters
+        ----------
+        node : int
+            Its id.
+
+        Returns
+        -------
+        str
+            Its name, in characters that can be seen, or its id where it has none.
+        """
         return visible(self.labels.get(node, str(node)))
 
     def stream_name(self, node: int, stream: int) -> str:
-        """A stream in few letters: its node's name and its number, as "7.0"."""
+        """A stream in few letters.
+
+        Parameters
+        ----------
+        node : int
+            The id of its node.
+        stream : int
+            The number of the stream, 0 to 3.
+
+        Returns
+        -------
+        str
+            The name of the node and the number of the stream, as "7.0".
+        """
         return f"{self.name(node)}.{stream}"
 
     def leave(self, node: Node, *, stream: int = 0, frame: int | None = None, seconds: float | None = None) -> Self:
-        """Stream 0 to 3 of the node ends in that frame, or in the first that starts at that time or after it, and its queue is emptied."""
+        """A stream ends in a frame, or in the first that starts at a time or after it, and its queue is emptied.
+
+        Parameters
+        ----------
+        node : int or str
+            The node, by its id or its name.
+        stream : int
+            The number of the stream, 0 to 3.
+        frame : int, optional
+            The frame, from 0 on and within the run.
+        seconds : float, optional
+            The time in seconds from the start of the run, in place of a frame. Without any time it is the start.
+
+        Returns
+        -------
+        Scenario
+            This scenario, so that calls can be chained.
+
+        Raises
+        ------
+        ScenarioError
+            Where the node is not given, both times are given, or a value is out of its range.
+        """
         self.script.append(Leave(*self._numbers("leave", self._frame("leave", frame, seconds), node, stream)))
         return self
 
     def put(
         self, node: Node, payload: bytes = b"", *, stream: int = 0, frame: int | None = None, seconds: float | None = None
     ) -> Self:
-        """The node's stream gets a packet to send at the start of that frame, or of the first that starts at that time or after it. Its
-        latency counts from the time that is given."""
+        """Gives a stream a packet to send, at the start of a frame, or of the first that starts at a time or after it.
+
+        Its latency counts from the time that is given.
+
+        Parameters
+        ----------
+        node : int or str
+            The node, by its id or its name.
+        payload : bytes
+            What it carries, up to 32 bytes in profile 1 and 96 in profile 2.
+        stream : int
+            The number of the stream, 0 to 3.
+        frame : int, optional
+            The frame, from 0 on and within the run.
+        seconds : float, optional
+            The time in seconds from the start of the run, in place of a frame. Without any time it is the start.
+
+        Returns
+        -------
+        Scenario
+            This scenario, so that calls can be chained.
+
+        Raises
+        ------
+        ScenarioError
+            Where the node is not given, the payload is too long, both times are given, or a value is out of its range.
+        """
         try:
             content = arguments.payload("payload", payload)
         except ArgumentError as error:
@@ -477,11 +903,36 @@ class Scenario:
         until: float | None = None,
         interval: int | None = None,
     ) -> Self:
-        """A packet every so many seconds from `start` on, before `until` (seconds; the end of the run without one). Each is handed over as by
-        `put`, so none comes after the start of the last frame.
+        """Gives a stream packets at regular times.
 
-        `payload` is the same for all, or a function of the packet's number from 0 on; without one it is the id (1 byte) and
-        that number (2 bytes). With an `interval` the stream is requested too, from `start` on.
+        Each is handed over as by `put`, so none comes after the start of the last frame.
+
+        Parameters
+        ----------
+        seconds : float
+            The time from one to the next, above 0.
+        node : int or str
+            The node, by its id or its name.
+        payload : bytes or callable, optional
+            The same for all, or a function of the packet's number from 0 on; without one it is the id (1 byte) and that number (2 bytes).
+        stream : int
+            The number of the stream, 0 to 3.
+        start : float
+            When the first one is put, in seconds from the start of the run.
+        until : float, optional
+            All are put before then, in seconds; without it before the end of the run.
+        interval : int, optional
+            With it the stream is requested too, from `start` on: a slot so often, in seconds, 1 to 120.
+
+        Returns
+        -------
+        Scenario
+            This scenario, so that calls can be chained.
+
+        Raises
+        ------
+        ScenarioError
+            Where `put` or `stream` raises it, or the packets are more than the lines that a network may have.
         """
         seconds, start = _real("seconds", seconds, above=0), _real("start", start, 0)
         end = float(self.seconds) if until is None else min(_real("until", until), self.seconds)
@@ -506,17 +957,87 @@ class Scenario:
         return self
 
     def lose(self, frame: int, slot: int, step: int, sender: Node, receiver: Node) -> Self:
-        """The link is lost in that step (0 to 11) of that slot of the frame."""
+        """Loses a link in one step of a slot.
+
+        Parameters
+        ----------
+        frame : int
+            The frame, from 0 on and within the run.
+        slot : int
+            The slot of its round.
+        step : int
+            The step of the slot, 0 to 11.
+        sender : int or str
+            The node that transmits, by its id or its name.
+        receiver : int or str
+            The node that does not receive it.
+
+        Returns
+        -------
+        Scenario
+            This scenario, so that calls can be chained.
+
+        Raises
+        ------
+        ScenarioError
+            Where a node is not given, or a number is out of its range.
+        """
         self.losses.append(Loss(*self._numbers("lose", frame, slot, step, sender, receiver)))
         return self
 
     def cut(self, frame: int, slot: int, step: int, node: Node) -> Self:
-        """All links to and from the node are lost from that step of that slot on until the frame ends."""
+        """Loses all links to and from a node, from one step of a slot on until the frame ends.
+
+        Parameters
+        ----------
+        frame : int
+            The frame, from 0 on and within the run.
+        slot : int
+            The slot of its round.
+        step : int
+            The step of the slot, 0 to 11.
+        node : int or str
+            The node, by its id or its name.
+
+        Returns
+        -------
+        Scenario
+            This scenario, so that calls can be chained.
+
+        Raises
+        ------
+        ScenarioError
+            Where the node is not given, or a number is out of its range.
+        """
         self.cuts.append(Cut(*self._numbers("cut", frame, slot, step, node)))
         return self
 
     def capture(self, frame: int, slot: int, step: int, at: Node, sender: Node) -> Self:
-        """Where unlike packets reach `at` at once in that step of that slot, it receives that of `sender`."""
+        """Where unlike packets reach a node at once in one step of a slot, it receives that of one sender.
+
+        Parameters
+        ----------
+        frame : int
+            The frame, from 0 on and within the run.
+        slot : int
+            The slot of its round.
+        step : int
+            The step of the slot, 0 to 11.
+        at : int or str
+            The node that receives, by its id or its name.
+        sender : int or str
+            The node whose packet it receives.
+
+        Returns
+        -------
+        Scenario
+            This scenario, so that calls can be chained.
+
+        Raises
+        ------
+        ScenarioError
+            Where a node is not given, or a number is out of its range.
+        """
         self.captures.append(Capture(*self._numbers("capture", frame, slot, step, at, sender)))
         return self
 
@@ -529,7 +1050,13 @@ class Scenario:
         return display.shown("scenario", self)
 
     def copy(self) -> Self:
-        """A scenario with the same content that can be changed without changing this one."""
+        """A scenario with the same content that can be changed without changing this one.
+
+        Returns
+        -------
+        Scenario
+            The copy.
+        """
         return replace(self)
 
     # From and to other forms.
@@ -539,11 +1066,35 @@ class Scenario:
         cls, graph: networkx.Graph, frames: int, *, hosts: Sequence[int] = (), sends: int = 2, profile: int = 1, contend: int = 0,
         on: bool = True,
     ) -> Self:  # fmt: skip
-        """A scenario of the graph's nodes and edges; an edge of a graph without directions is both links.
+        """A scenario of the nodes and edges of a graph.
 
-        Nodes are ids and may have the attributes `offset` (ticks of 1/64 µs), `ppm` and `host` (the rank); edges may have
-        `prr`. `hosts` gives the hosts by rank instead of the attribute. All nodes are switched on in frame 0 if `on`.
-        Raises `ScenarioError` where a node is no id or a value is out of range.
+        Parameters
+        ----------
+        graph : networkx.Graph
+            Its nodes are ids, 1 to 200, and may have the attributes `offset` (ticks of 1/64 µs), `ppm` and `host` (the rank); edges may have `prr`. An
+            edge of a graph without directions is both links.
+        frames : int
+            How many frames the run has, 1 to 4,096.
+        hosts : sequence of int
+            The hosts by rank, in place of the attribute.
+        sends : int
+            How often a node transmits at most in one flood, 1 to 4.
+        profile : int
+            The profile, 1 or 2.
+        contend : int
+            The contention slots, as `Scenario` has them.
+        on : bool
+            Whether all nodes are switched on in frame 0.
+
+        Returns
+        -------
+        Scenario
+            The scenario, without streams and packets.
+
+        Raises
+        ------
+        ScenarioError
+            Where a node is no id or a value is out of range.
         """
         made = cls(frames, sends, profile, contend, told=True)
         strange = [node for node in graph if arguments.index(node) is None]
@@ -566,23 +1117,46 @@ class Scenario:
     ) -> Self:
         """A scenario of tables, each a DataFrame or the path of a CSV file.
 
-        nodes     `id`; may have `name`, `offset` (ticks of 1/64 µs), `ppm`, `host` (the rank), `on` (seconds; 0 without it), and the
-                  place, `x` and `y`
-        links     `from`, `to` (or `u` and `v`, or `source` and `target`); may have `prr`, `both` (true for both directions), and the
-                  time from which on a ratio holds, so that a link may have several rows: `seconds` or `frame` from the start of the
-                  run, or `timestamp`, a date and a time. The first time stamp of the table is the start of the run, and before its first
-                  sample a link has the ratio of that sample
-        streams   `node`, `interval` (seconds); may have `stream`, `start` (seconds), `keep_alive` (seconds), and `every` with
-                  `until` (seconds), by which packets are put as `every` does
-
         Ids may be names, as `pump` or `B-12`: then nodes get the ids 1, 2, .. by their rows, tables and pictures show the names, and
         `id` gives the id of a name. Blank cells, and words as `n/a`, are values that are not given; but a table that has ratios has one in
         each row. A column that is none of these is not read, and `cautions` names it. A CSV file is in UTF-8, with commas, semicolons or
         tabs between the cells.
 
-        Raises `ScenarioError`, which names the table and the row, where a column is missing or a value out of range, a column has
-        nearly the name of one that is read, two names are equal, a name is the id of another node, an id is not spelled as a number
-        (`007`), only some nodes have names, or a link has different ratios at one time; `OSError` where a file can't be read.
+        Parameters
+        ----------
+        nodes : pandas.DataFrame, path or file
+            A row for each node: `id`; it may have `name`, `offset` (ticks of 1/64 µs), `ppm`, `host` (the rank), `on` (seconds; 0 without it), and the
+            place, `x` and `y`.
+        links : pandas.DataFrame, path or file
+            A row for each link: `from`, `to` (or `u` and `v`, or `source` and `target`); it may have `prr`, `both` (true for both directions), and the
+            time from which on a ratio holds, so that a link may have several rows: `seconds` or `frame` from the start of the run, or
+            `timestamp`, a date and a time. The first time stamp of the table is the start of the run, and before its first sample a link has the
+            ratio of that sample.
+        streams : pandas.DataFrame, path or file, optional
+            A row for each stream: `node`, `interval` (seconds); it may have `stream`, `start` (seconds), `keep_alive` (seconds), and `every` with
+            `until` (seconds), by which packets are put as `every` does.
+        frames : int
+            How many frames the run has, 1 to 4,096.
+        sends : int
+            How often a node transmits at most in one flood, 1 to 4.
+        profile : int
+            The profile, 1 or 2.
+        contend : int
+            The contention slots, as `Scenario` has them.
+
+        Returns
+        -------
+        Scenario
+            The scenario; its nodes are switched on.
+
+        Raises
+        ------
+        ScenarioError
+            Where a column is missing or a value out of range, a column has nearly the name of one that is read, two names are equal, a name is the id of
+            another node, an id is not spelled as a number (`007`), only some nodes have names, or a link has different ratios at one time; it
+            names the table and the row.
+        OSError
+            Where a file can't be read.
         """
         from . import tables
 
@@ -591,7 +1165,13 @@ class Scenario:
         return made._tell()
 
     def graph(self) -> networkx.DiGraph:
-        """The links as a graph: nodes have `offset` (ticks), `ppm` (of the first rate) and maybe `host`; edges have `prr`."""
+        """The links as a graph.
+
+        Returns
+        -------
+        networkx.DiGraph
+            Its nodes have `offset` (ticks of 1/64 µs), `ppm` (of the first rate) and maybe `host` (the rank); its edges have `prr`.
+        """
         import networkx
 
         graph = networkx.DiGraph()
@@ -604,24 +1184,52 @@ class Scenario:
 
     @classmethod
     def read(cls, text: str | bytes | os.PathLike[str]) -> Self:
-        """The scenario of a text, or of the text in a file (a `pathlib.Path`), as the program reads it, but that lines of the
-        script may be out of order.
+        """The scenario of a text, as the program reads it, but that lines of the script may be out of order.
 
-        It may have ratios below it, as `network_text` writes them. Comments that `text` writes are taken back. Raises `ScenarioError`,
-        which names the first line that is wrong, the word and its range, and `ArgumentError` for a text that is the name of a file.
+        It may have ratios below it, as `network_text` writes them. Comments that `text` writes are taken back.
+
+        Parameters
+        ----------
+        text : str, bytes or path
+            The text, or the file that has it (a `pathlib.Path`).
+
+        Returns
+        -------
+        Scenario
+            The scenario.
+
+        Raises
+        ------
+        ScenarioError
+            Where a line is wrong: the first one is named, with the word and its range.
+        ArgumentError
+            Where the text is the name of a file.
         """
         from . import reading
 
         return reading.scenario_of(cls, text)
 
     def text(self, *, warn: bool = True) -> str:
-        """The canonical text of the scenario; lines of the script are sorted by frames, and keep their order within one. Above it,
-        as comments, are the names and the places of nodes, the receivers, the streams that are kept alive, and the seed and the ratios by
-        which its losses were drawn, if they were. A put whose time lies before its frame has a comment above it, as `#: seconds 303.7`.
-        Ratios by which no losses were drawn are lost: `network_text` keeps them.
+        """The canonical text of the scenario.
 
-        Gives `ScenarioWarning`s of what `cautions` names, and of ratios that are lost, unless `warn` is False. Raises `ScenarioError` where
-        the receivers name a node that is not there.
+        Lines of the script are sorted by frames, and keep their order within one. Above it, as comments, are the names and the places of nodes, the
+        receivers, the streams that are kept alive, and the seed and the ratios by which its losses were drawn, if they were. A put whose time lies
+        before its frame has a comment above it, as `#: seconds 303.7`. Ratios by which no losses were drawn are lost: `network_text` keeps them.
+
+        Parameters
+        ----------
+        warn : bool
+            Whether it gives `ScenarioWarning`s of what `cautions` names, and of ratios that are lost.
+
+        Returns
+        -------
+        str
+            The text, which ends with a line feed.
+
+        Raises
+        ------
+        ScenarioError
+            Where the receivers name a node that is not there.
         """
         if warn and self.is_to_be_drawn:
             words = (
@@ -638,9 +1246,25 @@ class Scenario:
         return "\n".join(self._lines()) + "\n"
 
     def network_text(self, *, warn: bool = True) -> str:
-        """The canonical text, and below a line `ratios` a line for each reception ratio, in millionths (docs/RATIOS.md). A scenario
-        without ratios, or whose losses are drawn, has none. It is all that answers go by: what `read` makes of it has the same ones.
-        Raises what `text` and `check_ratios` raise."""
+        """The canonical text, and below a line `ratios` a line for each reception ratio, in millionths (docs/RATIOS.md).
+
+        A scenario without ratios, or whose losses are drawn, has none. It is all that answers go by: what `read` makes of it has the same ones.
+
+        Parameters
+        ----------
+        warn : bool
+            Whether it gives `ScenarioWarning`s of what `cautions` names.
+
+        Returns
+        -------
+        str
+            The text, which ends with a line feed.
+
+        Raises
+        ------
+        ScenarioError
+            Where `text` or `check_ratios` raises it.
+        """
         self.check_ratios()
         below = ["ratios", *(one.text() for one in self.ratio_lines())] if self.is_to_be_drawn else []
         return self._text(warn) + "".join(f"{one}\n" for one in below)
@@ -679,7 +1303,13 @@ class Scenario:
         yield from (event.text() for events in single for event in sorted(events))
 
     def cautions(self) -> list[str]:
-        """What the program accepts though it is hardly what was meant, in sentences; `text` warns of them."""
+        """What the program accepts though it is hardly what was meant; `text` warns of it.
+
+        Returns
+        -------
+        list of str
+            Sentences.
+        """
         from . import cautions
 
         return cautions.of(self)

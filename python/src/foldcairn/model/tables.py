@@ -350,12 +350,29 @@ def _add_stream(scenario: Scenario, row: Mapping[str, Any]) -> None:
 
 
 def set_ratios(scenario: AnyScenario, links: Any) -> AnyScenario:
-    """Gives the links of a scenario the ratios of a table (`from`, `to`, `prr`), a DataFrame or the path of a CSV file. Where it has
-    a column `seconds`, `frame` or `timestamp` a ratio holds from that time on, so a link may have several rows, as in
+    """Gives the links of a scenario the ratios of a table.
+
+    Where it has a column `seconds`, `frame` or `timestamp` a ratio holds from that time on, so a link may have several rows, as in
     `Scenario.from_tables`. Columns that are not read are told by `cautions`.
 
-    Raises `ScenarioError` where a column or value is missing, the scenario has no such link, a ratio is not from 0 to 1, or a link has
-    different ratios at one time.
+    Parameters
+    ----------
+    scenario : Scenario
+        The scenario, which is changed.
+    links : pandas.DataFrame, path or file
+        A row for each ratio, with the columns `from`, `to` and `prr`; a CSV file is in UTF-8.
+
+    Returns
+    -------
+    Scenario
+        The same scenario.
+
+    Raises
+    ------
+    ScenarioError
+        Where a column or value is missing, the scenario has no such link, a ratio is not from 0 to 1, or a link has different ratios at one time.
+    OSError
+        Where a file can't be read.
     """
     frame = table(links, "links", ("from", "to", _RATIO))
     _add_links(scenario, frame, adds=False)
@@ -364,11 +381,30 @@ def set_ratios(scenario: AnyScenario, links: Any) -> AnyScenario:
 
 
 def positions(nodes: Any, scenario: Scenario | None = None) -> dict[int, tuple[float, float]]:
-    """The places of nodes of a table (`id`, `x`, `y`), a DataFrame or the path of a CSV file. Names in place of ids are those that the
-    scenario has; where it has none, they count by rows, as in `Scenario.from_tables`, and the scenario gets them.
+    """The places of nodes of a table.
 
-    Raises `ScenarioError` where a column or value is missing, a value is no number, two names are equal or one is the id of another node,
-    or the scenario has other names.
+    Names in place of ids are those that the scenario has; where it has none, they count by rows, as in `Scenario.from_tables`, and the scenario
+    gets them.
+
+    Parameters
+    ----------
+    nodes : pandas.DataFrame, path or file
+        A row for each node, with the columns `id`, `x` and `y`, in any unit.
+    scenario : Scenario, optional
+        The scenario whose names count.
+
+    Returns
+    -------
+    dict
+        By id the place (x, y).
+
+    Raises
+    ------
+    ScenarioError
+        Where a column or value is missing, a value is no number, two names are equal or one is the id of another node, or the scenario has other
+        names.
+    OSError
+        Where a file can't be read.
     """
     found: dict[int, tuple[float, float]] = {}
     read = table(nodes, "nodes", ("id", "x", "y"))

@@ -13,9 +13,21 @@ def _numbered(graph: networkx.Graph, order: Iterable[object]) -> networkx.Graph:
 
 
 def grid(rows: int, columns: int, *, diagonals: bool = False) -> networkx.Graph:
-    """Nodes in rows, numbered along each row, with links to their neighbours, with `diagonals` also to those across corners.
+    """Nodes in rows, numbered from 1 along each row, with links to their neighbours.
 
-    Each node has `pos` (column, row).
+    Parameters
+    ----------
+    rows : int
+        How many rows there are.
+    columns : int
+        How many nodes a row has.
+    diagonals : bool
+        Whether there are also links across corners.
+
+    Returns
+    -------
+    networkx.Graph
+        Each node has `pos`, (column, row), from 0 on.
     """
     graph = networkx.grid_2d_graph(rows, columns)
     if diagonals:
@@ -28,22 +40,58 @@ def grid(rows: int, columns: int, *, diagonals: bool = False) -> networkx.Graph:
 
 
 def line(count: int) -> networkx.Graph:
-    """Nodes in a line, each linked to the next; `pos` is (number, 0)."""
+    """Nodes in a line, each linked to the next.
+
+    Parameters
+    ----------
+    count : int
+        How many nodes there are; their ids are 1, 2, ..
+
+    Returns
+    -------
+    networkx.Graph
+        Each node has `pos`, (its id less 1, 0).
+    """
     graph = _numbered(networkx.path_graph(count), range(count))
     networkx.set_node_attributes(graph, {node: (node - 1, 0) for node in graph}, "pos")
     return graph
 
 
 def star(count: int) -> networkx.Graph:
-    """Node 1 in the middle, linked to each of the other `count - 1` nodes; `pos` is on a circle of radius 1."""
+    """Node 1 in the middle, linked to all other nodes.
+
+    Parameters
+    ----------
+    count : int
+        How many nodes there are, with the one in the middle.
+
+    Returns
+    -------
+    networkx.Graph
+        Each node has `pos`; those of the others are on a circle of radius 1.
+    """
     graph = _numbered(networkx.star_graph(count - 1), range(count))
     networkx.set_node_attributes(graph, networkx.shell_layout(graph, [[1], sorted(set(graph) - {1})]), "pos")
     return graph
 
 
 def random_geometric(count: int, radius: float, seed: int) -> networkx.Graph:
-    """Nodes at random places of a square with side 1, linked where their distance is at most `radius`; `pos` is the place.
+    """Nodes at random places of a square with side 1, linked where they are near each other.
 
-    The same seed gives the same graph. It may be in several parts: `networkx.is_connected` tells.
+    It may be in several parts: `networkx.is_connected` tells.
+
+    Parameters
+    ----------
+    count : int
+        How many nodes there are; their ids are 1, 2, ..
+    radius : float
+        The greatest distance of nodes that are linked, in sides of the square.
+    seed : int
+        The same seed gives the same graph.
+
+    Returns
+    -------
+    networkx.Graph
+        Each node has `pos`, its place.
     """
     return _numbered(networkx.random_geometric_graph(count, radius, seed=seed), range(count))

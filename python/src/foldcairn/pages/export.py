@@ -43,8 +43,16 @@ FIRST_CHANNEL = 11
 
 
 def dissector() -> Path:
-    """The path of the Lua script by which Wireshark and tshark decode the packets: `-X lua_script:PATH`, or a copy of it in
-    Wireshark's folder of personal Lua plugins. Captures of other tools are left to Wireshark's own dissector."""
+    """The Lua script by which Wireshark and tshark decode the packets of `pcap`.
+
+    It is for `-X lua_script:PATH`, or for a copy in Wireshark's folder of personal Lua plugins. Captures of other tools are left to Wireshark's own
+    dissector.
+
+    Returns
+    -------
+    pathlib.Path
+        Its path in this package.
+    """
     return Path(__file__).with_name("foldcairn.lua")
 
 
@@ -55,8 +63,7 @@ def nanoseconds(ticks: int) -> int:
 
 @of_log
 def pcap(log: Log, path: str | os.PathLike[str], *, start_seconds: float = 0.0, end_seconds: float | None = None) -> int:
-    """Writes each transmission that begins in this time (the whole run by default) as a packet of a capture file with times in
-    nanoseconds, and gives how many there are.
+    """Writes each transmission that begins in a time as a packet of a capture file with times in nanoseconds.
 
     The link type is IEEE 802.15.4 TAP (283). A packet has these metadata: channel (11 for rank 0, 12 for rank 1 and so on: a
     scenario names none), the times at which it and its slot start, the end of it and the length of the slot, that there is no
@@ -64,7 +71,28 @@ def pcap(log: Log, path: str | os.PathLike[str], *, start_seconds: float = 0.0, 
     mark `FOLD`, the node that transmitted, the rank, the frame, the start in ticks of 1/64 µs, and the packet. So without the
     dissector the metadata are read, and the rest is shown as data. Slots start by the host's clock.
 
-    Raises `OSError` where the file can't be written.
+    Parameters
+    ----------
+    log : results.Log
+        The run.
+    path : path
+        The file, which is replaced where it is there.
+    start_seconds : float
+        What comes before this time of the run is left out.
+    end_seconds : float, optional
+        And what comes from then on; without it the end of the run.
+
+    Returns
+    -------
+    int
+        How many packets were written.
+
+    Raises
+    ------
+    ArgumentError
+        Where the time is no part of the run.
+    OSError
+        Where the file can't be written.
     """
     start, end = arguments.window(start_seconds, end_seconds, log.scenario.seconds)
     slots = timing.slots(log).set_index(["frame", "rank", "slot"])["start_ticks"].to_dict()
@@ -100,14 +128,35 @@ def _record(row: Any, frame: int, slot: int | None, slot_ticks: int) -> bytes:
 
 @of_log
 def trace(log: Log, path: str | os.PathLike[str], *, start_seconds: float = 0.0, end_seconds: float | None = None) -> int:
-    """Writes what lies in this time at least in part (the whole run by default) as Chrome trace events, and gives how many
-    there are; a file that ends with `.gz` is compressed. Perfetto (ui.perfetto.dev) and chrome://tracing read both.
+    """Writes what lies in a time at least in part as Chrome trace events.
 
-    There is a track for each node, by ascending ids: when it has no power; its rounds and searches; in them the windows of
-    slots by purpose (`radio.PURPOSES`); and in them what it transmitted and received, with the packet's fields. A track for
-    each rank has the rounds and slots by the host's clock. Times are in microseconds, of which ticks are exact parts.
+    Perfetto (ui.perfetto.dev) and chrome://tracing read them. There is a track for each node, by ascending ids: when it has no power; its rounds
+    and searches; in them the windows of slots by purpose (`radio.PURPOSES`); and in them what it transmitted and received, with the
+    packet's fields. A track for each rank has the rounds and slots by the host's clock. Times are in microseconds, of which ticks are exact
+    parts. A file that ends with `.gz` is compressed.
 
-    Raises `OSError` where the file can't be written.
+    Parameters
+    ----------
+    log : results.Log
+        The run.
+    path : path
+        The file, which is replaced where it is there.
+    start_seconds : float
+        What comes before this time of the run is left out.
+    end_seconds : float, optional
+        And what comes from then on; without it the end of the run.
+
+    Returns
+    -------
+    int
+        How many events were written.
+
+    Raises
+    ------
+    ArgumentError
+        Where the time is no part of the run.
+    OSError
+        Where the file can't be written.
     """
     start, end = arguments.window(start_seconds, end_seconds, log.scenario.seconds)
     target = Path(path)

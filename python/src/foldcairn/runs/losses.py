@@ -35,7 +35,12 @@ _MASK = (1 << 64) - 1
 class TooManyLosses(Exception):
     """The losses that change who receives don't fit the 20,000 script lines of a text.
 
-    `frame` is the first frame whose losses don't fit, `fitting` how many lines fit; so a run of `frame` frames can be drawn.
+    Attributes
+    ----------
+    frame : int
+        The first frame whose losses don't fit; so a run of this many frames can be drawn.
+    fitting : int
+        How many lines fit.
     """
 
     def __init__(self, frame: int, fitting: int) -> None:
@@ -79,11 +84,23 @@ def frame_of(key: int) -> int:
 
 
 def coin(seed: int, keys: Array) -> Array:
-    """The coin of each (frame, slot, step, sender, receiver), given by `pack`: a number from 0 up to but not including 1.
+    """The coins of links in steps of slots, which say what passes.
 
     Let S be the output of SplitMix64 in the state `seed` modulo 2^64. The coin of a key is the output of SplitMix64 in the
     state S + key * 0x9E3779B97F4A7C15 modulo 2^64, its upper 53 bits divided by 2^53. The link passes where the coin is
     below its reception ratio, which counts in millionths, rounded.
+
+    Parameters
+    ----------
+    seed : int
+        The seed; it counts modulo 2^64.
+    keys : numpy.ndarray
+        The numbers that `pack` gives to (frame, slot, step, sender, receiver), of int64.
+
+    Returns
+    -------
+    numpy.ndarray
+        For each key a number from 0 up to but not including 1.
     """
     first = splitmix64(numpy.array([seed & _MASK], numpy.uint64))[0]
     with numpy.errstate(over="ignore"):
@@ -108,15 +125,41 @@ def draw(
     results: str | os.PathLike[str] | None = None,
     progress: bool | TextIO = False,
 ) -> AnyScenario:
-    """The scenario with the losses that its reception ratios (`prr`, `ratios`) have by the coins of a seed, 0 to 9,999,999,999,999.
+    """The scenario with the losses that its reception ratios (`prr`, `ratios`) have by the coins of a seed.
 
-    The command `draw` of the planner's program draws; `program` is that of `program.find_planner` without it. Only losses that change who
-    receives are written; what the scenario loses by itself stays, and what was drawn before, as of the scenario of a log, is drawn anew.
-    The same scenario and seed give the same losses, and links that are taken out change no coin of the others. The deliveries, the
-    drops and what radios are charged are those of all losses written. Starts of transmissions may differ by a few ticks, since of
-    equal packets the earliest is received that is not lost. `progress` says when it is drawn, and a folder of `results` keeps it:
-    both are those of `sweep.sweep`. Raises `TooManyLosses`, with the frame, where 20,000 script lines don't suffice, `ArgumentError`
-    where the seed is none, `program.NotFound` where the program has no command `draw`, and what `program.execute` raises.
+    The command `draw` of the planner's program draws. Only losses that change who receives are written; what the scenario loses by itself
+    stays, and what was drawn before, as of the scenario of a log, is drawn anew. The same scenario and seed give the same losses, and links that
+    are taken out change no coin of the others. The deliveries, the drops and what radios are charged are those of all losses written. Starts of
+    transmissions may differ by a few ticks, since of equal packets the earliest is received that is not lost.
+
+    Parameters
+    ----------
+    scenario : Scenario
+        The network; it is not changed.
+    seed : int
+        The seed of the losses, 0 to 9,999,999,999,999.
+    program : path, optional
+        The program; that of `program.find_planner` without it.
+    results : path, optional
+        A folder that keeps what is drawn, as that of `sweep.sweep`.
+    progress : bool or file
+        Whether, or where, it says when it is drawn, as in `sweep.sweep`.
+
+    Returns
+    -------
+    Scenario
+        A copy with the losses in `losses` and `drawn`, and the seed in `seed`.
+
+    Raises
+    ------
+    TooManyLosses
+        Where 20,000 script lines don't suffice; it has the frame.
+    ArgumentError
+        Where the seed is none.
+    program.NotFound
+        Where the program has no command `draw`.
+    program.ProgramError
+        As `program.execute` does.
     """
     seed = arguments.whole("seed", seed, 0, lines.SEED_MOST)
     # Of a plan this is no more the network of its means.
@@ -184,8 +227,18 @@ def _too_many(scenario: Scenario, seed: int, program: Path | None, told: program
 
 @dataclass(frozen=True)
 class Drawing:
-    """A scenario whose losses are still to be drawn by a seed: its text, its ratios and the seed say what comes of it, so a
-    sweep can tell whether it has the result before it draws. Losses that were drawn before are left out."""
+    """A scenario whose losses are still to be drawn by a seed.
+
+    Its text, its ratios and the seed say what comes of it, so a sweep can tell whether it has the result before it draws. Losses that were drawn
+    before are left out.
+
+    Parameters
+    ----------
+    scenario : Scenario
+        The network.
+    seed : int
+        The seed of the losses, 0 to 9,999,999,999,999.
+    """
 
     scenario: Scenario
     seed: int
@@ -194,21 +247,68 @@ class Drawing:
         object.__setattr__(self, "scenario", networks.network("scenario", self.scenario).of_seed(self.seed))
 
     def drawn(self, *, program: Path | None = None) -> Scenario:
-        """The scenario with its losses; raises what `draw` raises."""
+        """The scenario with its losses.
+
+        Parameters
+        ----------
+        program : path, optional
+            The program; that of `program.find_planner` without it.
+
+        Returns
+        -------
+        Scenario
+            As `draw` gives it.
+
+        Raises
+        ------
+        TooManyLosses
+            As `draw` raises it, which raises others too.
+        """
         return draw(self.scenario, self.seed, program=program)
 
     def result(self) -> Any:
-        """What is measured: the scenario with its losses."""
+        """What is measured of it by a sweep.
+
+        Returns
+        -------
+        Scenario
+            The scenario with its losses.
+
+        Raises
+        ------
+        TooManyLosses
+            As `draw` raises it, which raises others too.
+        """
         return self.drawn()
 
 
 @dataclass(frozen=True)
 class Outcome(Drawing):
-    """A drawing of which the report of the bus alone is asked: the planner's program draws as the bus runs, so there are no lines of
-    losses, and runs may be as long as those of `results.outcome`."""
+    """A drawing of which the report of the bus alone is asked.
+
+    The planner's program draws as the bus runs, so there are no lines of losses, and runs may be as long as those of `results.outcome`.
+
+    Parameters
+    ----------
+    scenario : Scenario
+        The network.
+    seed : int
+        The seed of the losses, 0 to 9,999,999,999,999.
+    """
 
     def result(self) -> runs.Report:
-        """The report; raises what `results.outcome` raises."""
+        """What is measured of it by a sweep.
+
+        Returns
+        -------
+        results.Report
+            The report, without a log.
+
+        Raises
+        ------
+        program.ProgramError
+            As `results.outcome` does, which raises others too.
+        """
         return runs.outcome(self.scenario, self.seed, warn=False)
 
 
@@ -242,16 +342,37 @@ def bursts(
     bad: float | None = None,
     links: Iterable[Link] | None = None,
 ) -> AnyScenario:
-    """The scenario with links that are good and bad by turns, after Gilbert and Elliott: their ratios become lines of `Scenario.ratio`.
+    """The scenario with links that are good and bad by turns, after Gilbert and Elliott.
 
-    good_seconds, bad_seconds   the mean lengths of good and of bad times, at least a frame each; lengths are geometric, in whole frames
-    ratio   the mean ratio of each link, 0 to 1; without it that of the link at the start, and links that lose nothing then stay so
-    bad     the ratio in bad times; without it the lowest that the mean allows, which is 0 where good times alone can make up for it
-    links   the directed links (u, v) that change; all without it
+    Their ratios become lines of `Scenario.ratio`. A link is good at the start as often as later on. Times are drawn link by link, from the seed and
+    the two ids, by numpy's generator PCG64: so a link that is taken out changes no other one.
 
-    A link is good at the start as often as later on. Times are drawn link by link, from the seed and the two ids, by
-    numpy's generator PCG64: so a link that is taken out changes no other one. Raises `ArgumentError` where a value is out of its
-    range, a link is none of the scenario, or no ratio of good times, at most 1, gives the mean.
+    Parameters
+    ----------
+    scenario : Scenario
+        The network; it is not changed.
+    seed : int
+        By which the times are drawn; it counts modulo 2^64.
+    good_seconds : float
+        The mean length of good times, at least a frame; lengths are geometric, in whole frames.
+    bad_seconds : float
+        The mean length of bad times, in the same way.
+    ratio : float, optional
+        The mean ratio of each link, 0 to 1; without it that of the link at the start, and links that lose nothing then stay so.
+    bad : float, optional
+        The ratio in bad times, 0 to 1; without it the lowest that the mean allows, which is 0 where good times alone can make up for it.
+    links : iterable of tuple, optional
+        The links (u, v), of one direction each, that change; all without it.
+
+    Returns
+    -------
+    Scenario
+        A copy with these ratios over time.
+
+    Raises
+    ------
+    ArgumentError
+        Where a value is out of its range, a link is none of the scenario, or no ratio of good times, at most 1, gives the mean.
     """
     seed = arguments.whole("seed", seed) & _MASK
     # With which chance a time ends with each of its frames.
@@ -305,12 +426,30 @@ def _turns(chance: Array, goods: float, leave_good: float, leave_bad: float) -> 
 
 
 def read_table(scenario: AnyScenario, source: Any) -> AnyScenario:
-    """The scenario with the losses of a recorded table, a DataFrame or the path of a CSV file.
+    """The scenario with the losses of a recorded table.
 
     A table of lost packets has the columns `seconds` (or `frame`), `slot`, `counter`, `from` and `to`: this packet was lost
     on this link. A table of missed packets has `seconds` (or `frame`), `slot` and `node`: all links to the node are lost in
-    that slot, in all steps. What is there twice is taken once. Raises `ScenarioError`, which names the row, where a value is out
-    of its range or a node isn't given.
+    that slot, in all steps. What is there twice is taken once.
+
+    Parameters
+    ----------
+    scenario : Scenario
+        The network; it is not changed.
+    source : pandas.DataFrame, path or file
+        The table, or the CSV file that has it.
+
+    Returns
+    -------
+    Scenario
+        A copy with these losses.
+
+    Raises
+    ------
+    ScenarioError
+        Where a column is missing, a value is out of its range, or a node is not given; it names the row.
+    OSError
+        Where a file can't be read.
     """
     frame = tables.table(source, "losses", ("slot",))
     columns: tuple[str, ...]

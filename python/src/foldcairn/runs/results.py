@@ -86,9 +86,14 @@ _STAMP = {
 class Origin:
     """Where a result comes from, so that it can be made again.
 
-    text       the SHA-256 of the scenario's text, which a run depends on alone
-    program    the SHA-256 of the program's file; empty where it was not run here
-    seed       by which the losses were drawn, as the run was or before it; None: by none, or not known
+    Attributes
+    ----------
+    text : str
+        The SHA-256 of the scenario's text, which a run depends on alone.
+    program : str
+        The SHA-256 of the program's file; empty where it was not run here.
+    seed : int or None
+        By which the losses were drawn, as the run was or before it; None: by none, or not known.
     """
 
     text: str
@@ -98,18 +103,27 @@ class Origin:
 
 @dataclass(frozen=True, repr=False, eq=False)
 class Report:
-    """The report of a run of `scenario`. Two reports are equal only if they are one; `pandas.DataFrame.equals` compares their tables.
+    """The report of a run.
 
-    deliveries  A row for each node that delivered a packet: `frame` and `slot` of its round, `rank` of the round's host, the
-                `node`, and the packet by its `source`, `boot` of the source, `stream`, `number` and `payload` (hexadecimal, `-`
-                for none). `planned_seconds` is when the slot starts by plan: its frame, one second, and the slots before it;
-                clocks that drift make it up to 0.42 s earlier or later in the longest runs. By frame, rank, slot and node.
-    drops       A row for each put that was lost before it was queued: `frame`, `node`, `stream`, in the order of the puts.
-    energy      A row for each node: `transmit_ticks`, `window_ticks` (planned for the windows of its rounds), `on_ticks`
-                (its radio was on), each also in `_seconds`, `scanned_frames` (at whose start it searched for a host), and
-                `duty_cycle`, `on_ticks` as a part (0 to 1) of the run. Of `bus` it has neither `on_ticks` nor `duty_cycle`,
-                which depend on clocks.
-    origin      The hash of the text, the checksum of the program, and the seed.
+    Two reports are equal only if they are one; `pandas.DataFrame.equals` compares their tables.
+
+    Attributes
+    ----------
+    scenario : Scenario
+        What was run.
+    deliveries : pandas.DataFrame
+        A row for each node that delivered a packet: `frame` and `slot` of its round, `rank` of the round's host, the `node`, and the packet by its
+        `source`, `boot` of the source, `stream`, `number` and `payload` (hexadecimal, `-` for none). `planned_seconds` is when the slot starts by
+        plan: its frame, one second, and the slots before it; clocks that drift make it up to 0.42 s earlier or later in the longest runs. By
+        frame, rank, slot and node.
+    drops : pandas.DataFrame
+        A row for each put that was lost before it was queued: `frame`, `node`, `stream`, in the order of the puts.
+    energy : pandas.DataFrame
+        A row for each node: `transmit_ticks`, `window_ticks` (planned for the windows of its rounds), `on_ticks` (its radio was on), each also in
+        `_seconds`, `scanned_frames` (at whose start it searched for a host), and `duty_cycle`, `on_ticks` as a part (0 to 1) of the run. Of
+        `bus` it has neither `on_ticks` nor `duty_cycle`, which depend on clocks.
+    origin : Origin
+        The hash of the text, the checksum of the program, and the seed.
     """
 
     scenario: Scenario
@@ -130,16 +144,23 @@ class Report:
 
 @dataclass(frozen=True, repr=False, eq=False)
 class Log(Report):
-    """The report and the log of a run.
+    """The report and the log of a run; it has what a `Report` has too.
 
-    deliveries     As a report has them, and `delivered_seconds`, when the node had received the packet: the end of its first
-                   reception, in true time. It hands the packet on when the window of the slot closes, at most 56 ms later.
-    transmissions  A row for each transmission: `start_ticks`, `end_ticks`, `start_seconds`, `end_seconds`, `rank` of the
-                   channel, `node`, `packet` (hexadecimal digits), and of the packet its `kind` (one of `packets.KINDS`),
-                   `slot`, and `step`, its relay counter, which is 0 at the initiator.
-    receptions     The same for each reception: `node` received what `sender` transmitted.
-    tunings        A row for each time in which a radio was on: `rank`, `node`, start and end.
-    packets        Each packet that was transmitted, decoded (`packets.table`).
+    Attributes
+    ----------
+    deliveries : pandas.DataFrame
+        As a report has them, and `delivered_seconds`, when the node had received the packet: the end of its first reception, in true time. It
+        hands the packet on when the window of the slot closes, at most 56 ms later.
+    transmissions : pandas.DataFrame
+        A row for each transmission: `start_ticks`, `end_ticks`, `start_seconds`, `end_seconds`, `rank` of the channel, `node`, `packet`
+        (hexadecimal digits), and of the packet its `kind` (one of `packets.KINDS`), `slot`, and `step`, its relay counter, which is 0 at the
+        initiator.
+    receptions : pandas.DataFrame
+        The same for each reception: `node` received what `sender` transmitted.
+    tunings : pandas.DataFrame
+        A row for each time in which a radio was on: `rank`, `node`, start and end.
+    packets : pandas.DataFrame
+        Each packet that was transmitted, decoded (`packets.table`).
     """
 
     transmissions: pd.DataFrame
@@ -157,8 +178,15 @@ class Log(Report):
 
 @dataclass(frozen=True, eq=False)
 class FloodReport:
-    """One flood: `accepts`, a row for each `node` that accepted the packet with its `step` (0 to 11), and the number of
-    `transmissions`."""
+    """One flood.
+
+    Attributes
+    ----------
+    accepts : pandas.DataFrame
+        A row for each `node` that accepted the packet, with its `step` (0 to 11).
+    transmissions : int
+        How many transmissions it took.
+    """
 
     accepts: pd.DataFrame
     transmissions: int
@@ -166,12 +194,18 @@ class FloodReport:
 
 @dataclass(frozen=True, eq=False)
 class DeadlineReport:
-    """Which streams could keep their deadlines if each frame had a round, which no host of a run holds; `planning.verdicts` and the command
-    `verify` judge a run.
+    """Which streams could keep their deadlines if each frame had a round.
 
-    admitted  A row for each stream that is admitted: `node`, `stream`.
-    rejected  The others, with why: from `from_frame` on and by `until_frame` they would have `demand` jobs, more than slots.
-    rounds    A row for each slot that is given: `frame`, `node`, `stream`.
+    No host of a run holds these rounds; `planning.verdicts` and the command `verify` judge a run.
+
+    Attributes
+    ----------
+    admitted : pandas.DataFrame
+        A row for each stream that is admitted: `node`, `stream`.
+    rejected : pandas.DataFrame
+        The others, with why: from `from_frame` on and by `until_frame` they would have `demand` jobs, more than slots.
+    rounds : pandas.DataFrame
+        A row for each slot that is given: `frame`, `node`, `stream`.
     """
 
     admitted: pd.DataFrame
@@ -181,12 +215,17 @@ class DeadlineReport:
 
 @dataclass(frozen=True, repr=False, eq=False)
 class ReturnReport(Report):
-    """The report of a run in which backup hosts go back, and when they do (docs/RETURN.md). `scenario` is the one that was
-    asked for, without the lines of the returns.
+    """The report of a run in which backup hosts go back, and when they do (docs/RETURN.md).
 
-    returns  A row for each return: in `frame` the backup host `node` received a schedule of `rank`, the lower rank that it
-             probed. It restarts at the start of the next frame, `restart_seconds` from the start of the run.
-    probes   A row for each `node` that probed, with the number of `frames` in which it did. No energy has this.
+    Its `scenario` is the one that was asked for, without the lines of the returns.
+
+    Attributes
+    ----------
+    returns : pandas.DataFrame
+        A row for each return: in `frame` the backup host `node` received a schedule of `rank`, the lower rank that it probed. It restarts at the
+        start of the next frame, `restart_seconds` from the start of the run.
+    probes : pandas.DataFrame
+        A row for each `node` that probed, with the number of `frames` in which it did. No energy has this.
     """
 
     returns: pd.DataFrame
