@@ -168,9 +168,8 @@ def test_who_hosts_a_rank() -> None:
 # Networks whose hosts fail.
 
 
-def by_lines(network: Scenario, seed: int, whom: Mapping[tuple[int, int], object]) -> tuple[Counter, Counter]:
-    """How many packets each stream has for each node, `NO_HOST` among these, and how many of them it delivered after how many frames: from the
-    lines of `outcome` and `fates` and the script alone."""
+def lines_of(network: Scenario, seed: int) -> tuple[dict[tuple[int, ...], tuple[int, int]], list[str]]:
+    """By node and packet the frame and the rank of each `deliver` line, and the lines of `fates`."""
     text = network.network_text(warn=False)
     came = {}
     for line in program.execute(["outcome", str(seed)], text).decode().splitlines():
@@ -178,9 +177,18 @@ def by_lines(network: Scenario, seed: int, whom: Mapping[tuple[int, int], object
         if word == "deliver":
             frame, rank, _, node, *packet = map(int, fields[:8])
             came[(node, *packet)] = frame, rank
+    return came, program.execute(["fates", str(seed)], text).decode().splitlines()
+
+
+def by_lines(
+    network: Scenario, lines: tuple[dict[tuple[int, ...], tuple[int, int]], list[str]], whom: Mapping[tuple[int, int], object]
+) -> tuple[Counter, Counter]:
+    """How many packets each stream has for each node, `NO_HOST` among these, and how many of them it delivered after how many frames: from the
+    lines of `outcome` and `fates` and the script alone."""
+    came, fates = lines
     put, delivered = Counter(), Counter()
     rows = (line for line in sorted(network.script, key=lambda line: line.frame) if isinstance(line, Put))
-    for row, line in zip(rows, program.execute(["fates", str(seed)], text).decode().splitlines(), strict=True):
+    for row, line in zip(rows, fates, strict=True):
         words, key = line.split(), (row.node, row.stream)
         if key in network.keep_alive and not row.payload:
             continue
@@ -220,10 +228,11 @@ def of_sums(sums: arrivals.Sums) -> tuple[Counter, Counter]:
 def test_every_view_is_that_of_the_lines(number: int) -> None:
     network = failing(number)
     runs = results.log(losses.draw(network, number), warn=False), outcome(network, number, warn=False)
-    seed = arrivals.of_seed(network, number)
+    seed, lines = arrivals.of_seed(network, number), lines_of(network, number)
+    counted = None if network.keep_alive else counts.of(network, number, 1)
     for receivers in ("hosts", None, [1, 3], {2: "hosts", (3, 0): [1, 2, 4], "others": 1}):
         whom = meant(network, receivers)
-        put, delivered = by_lines(network, number, whom.by_stream)
+        put, delivered = by_lines(network, lines, whom.by_stream)
         assert delivered
         for run in runs:
             table = planning.delivery_ratio(run, "pair", receivers=receivers).set_index(["source", "stream", "node"])
@@ -232,8 +241,8 @@ def test_every_view_is_that_of_the_lines(number: int) -> None:
             late = planning.latencies(run, receivers=receivers)
             assert Counter(late[["source", "stream", "node"]].itertuples(index=False, name=None)) == at_nodes(delivered)
         assert of_sums(arrivals.Sums.of_runs([seed], whom)) == (put, delivered)
-        if not network.keep_alive:
-            assert of_sums(arrivals.Sums.of_counts(counts.of(network, number, 1), whom)) == (put, delivered)
+        if counted is not None:
+            assert of_sums(arrivals.Sums.of_counts(counted, whom)) == (put, delivered)
 
 
 def test_pairs_and_deliveries_are_of_each_other() -> None:

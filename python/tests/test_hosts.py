@@ -84,9 +84,15 @@ def by_lines(network: Scenario, seed: int) -> dict[str, Counter]:
 
 
 @cache
+def known(number: int) -> dict[str, Counter]:
+    """What the lines say of a network, which is the seed too."""
+    return by_lines(failing(number), number)
+
+
+@cache
 def cases() -> Counter:
     """How many packets of all networks met each case."""
-    return sum((by_lines(failing(number), number)["cases"] for number in range(40)), Counter())
+    return sum((known(number)["cases"] for number in range(40)), Counter())
 
 
 def test_the_networks_meet_each_case() -> None:
@@ -96,8 +102,7 @@ def test_the_networks_meet_each_case() -> None:
 
 @pytest.mark.parametrize("number", range(40))
 def test_one_rule_with_a_log_without_one_and_over_many_seeds(number: int) -> None:
-    network = failing(number)
-    wanted = by_lines(network, number)
+    network, wanted = failing(number), known(number)
     log = results.log(losses.draw(network, number), warn=False)
     without = outcome(network, number, warn=False)
     sampled = planning.sample(network, [number], receivers="hosts", progress=False)._tallies
@@ -118,7 +123,7 @@ def test_one_rule_with_a_log_without_one_and_over_many_seeds(number: int) -> Non
 
 def test_importance_and_capacity_count_the_same() -> None:
     for number in (1, 3):
-        network, wanted = failing(number), by_lines(failing(number), number)
+        network, wanted = failing(number), known(number)
         ratio = sum(wanted["delivered"].values()) / sum(wanted["put"].values())
         link = sorted(network.links)[0]
         assert importance.importance(network, candidates=[link], seeds=[number], receivers="hosts", progress=False)["ratio"][0] == pytest.approx(ratio)
