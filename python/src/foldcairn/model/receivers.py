@@ -62,42 +62,106 @@ def stream_index(scenario: Scenario) -> pd.MultiIndex:
 
 @dataclass(frozen=True)
 class Meant:
-    """For whom the packets of each stream are meant: "hosts", or a set of nodes."""
+    """For whom the packets of each stream are meant.
+
+    Parameters
+    ----------
+    scenario : Scenario
+        The scenario.
+    by_stream : mapping
+        By (source, number of the stream) "hosts", for whichever host serves, or the set of the ids of nodes.
+    """
 
     scenario: Scenario
     by_stream: Mapping[tuple[int, int], str | frozenset[int]]
 
     def groups(self) -> Iterable[tuple[str | frozenset[int], list[tuple[int, int]]]]:
-        """The streams that are meant for the same nodes, together."""
+        """The streams that are meant for the same nodes, together.
+
+        Returns
+        -------
+        iterable of tuple
+            "hosts" or a set of nodes, and the list of its streams.
+        """
         found: dict[str | frozenset[int], list[tuple[int, int]]] = {}
         for stream, nodes in self.by_stream.items():
             found.setdefault(nodes, []).append(stream)
         return found.items()
 
     def nodes(self) -> set[int]:
-        """All nodes that some stream of another node is meant for."""
+        """All nodes that some stream of another node is meant for.
+
+        Returns
+        -------
+        set of int
+            Their ids; with streams for whichever host serves all hosts.
+        """
         hosts = set(self.scenario.hosts.values())
         return {
             node for (source, _), nodes in self.by_stream.items() for node in (hosts if isinstance(nodes, str) else nodes) if node != source
         }
 
     def is_for(self, source: Ids, stream: Ids, node: Ids, host: Ids) -> Truths:
-        """Whether packets are meant for nodes, one by one: packets by their `source` and `stream`, and by `host`, the node that hosts the round
-        in which each was sent or received, `NO_HOST` where there is none."""
+        """Whether packets are meant for nodes, one by one.
+
+        Parameters
+        ----------
+        source : numpy.ndarray
+            The id of the source of each packet.
+        stream : numpy.ndarray
+            The number of its stream, 0 to 3.
+        node : numpy.ndarray
+            The node of which it is asked.
+        host : numpy.ndarray
+            The node that hosts the round in which it was sent or received, `NO_HOST` where there is none.
+
+        Returns
+        -------
+        numpy.ndarray
+            A truth for each packet; no packet is meant for its own source.
+        """
         _, to_hosts, named = self._tables
         group = self.groups_of(source, stream)
         found: Truths = np.where(to_hosts[group], node == host, named[group, node]) & (node != source)
         return found
 
     def is_for_any(self, source: Ids, stream: Ids, host: Ids) -> Truths:
-        """Whether packets are meant for any node, by the same words."""
+        """Whether packets are meant for any node, one by one.
+
+        Parameters
+        ----------
+        source : numpy.ndarray
+            The id of the source of each packet.
+        stream : numpy.ndarray
+            The number of its stream, 0 to 3.
+        host : numpy.ndarray
+            The node that hosts the round in which it was sent or received, `NO_HOST` where there is none.
+
+        Returns
+        -------
+        numpy.ndarray
+            A truth for each packet.
+        """
         _, to_hosts, named = self._tables
         group = self.groups_of(source, stream)
         found: Truths = np.where(to_hosts[group], host != source, named.sum(axis=1)[group] > named[group, source])
         return found
 
     def groups_of(self, source: Ids, stream: Ids) -> Ids:
-        """The places in `by_stream` of the streams of packets, and its length for all other streams."""
+        """The places in `by_stream` of the streams of packets.
+
+        Parameters
+        ----------
+        source : numpy.ndarray
+            The id of the source of each packet.
+        stream : numpy.ndarray
+            The number of its stream, 0 to 3.
+
+        Returns
+        -------
+        numpy.ndarray
+            A place for each packet, from 0 on; the length of `by_stream` for streams that are not in it.
+        """
         found: Ids = self._tables[0][4 * source + stream]
         return found
 
@@ -116,9 +180,19 @@ class Meant:
         return place, to_hosts, named
 
     def pairs(self, packets: pd.DataFrame) -> pd.DataFrame:
-        """A row for each packet and each node that it is meant for: `place`, its row in `packets`, and `node`, by both. The packets have
-        `source`, `stream` and `rank`, that of the round in which they were sent, -1 where they never were: of these the node is `NO_HOST`
-        where they are meant for whichever host serves."""
+        """A row for each packet and each node that it is meant for.
+
+        Parameters
+        ----------
+        packets : pandas.DataFrame
+            They have `source`, `stream` and `rank`, that of the round in which they were sent, -1 where they never were.
+
+        Returns
+        -------
+        pandas.DataFrame
+            `place`, the row of the packet, and `node`, by both. Of a packet that was never sent the node is `NO_HOST` where it is meant for whichever
+            host serves.
+        """
         source, host = packets["source"].to_numpy(dtype="int64"), hosts_of(self.scenario, packets["rank"].to_numpy(dtype="int64"))
         group = self.groups_of(source, packets["stream"].to_numpy(dtype="int64"))
         order = {stream: number for number, stream in enumerate(self.by_stream)}
@@ -143,8 +217,25 @@ def hosts_of(scenario: Scenario, ranks: Ids) -> Ids:
 
 
 def meant(scenario: Scenario, receivers: Receivers = None) -> Meant:
-    """For whom the packets of each stream are meant. Raises `ValueError` for a word that is none of them, a node that the scenario
-    does not have, or a stream of a mapping that is not named. What is a `Meant` already stays."""
+    """For whom the packets of each stream are meant.
+
+    Parameters
+    ----------
+    scenario : Scenario
+        The scenario.
+    receivers : optional
+        In the forms of this module; without it what the scenario says, and all nodes if it says nothing. What is a `Meant` already stays.
+
+    Returns
+    -------
+    Meant
+        The nodes by stream.
+
+    Raises
+    ------
+    ValueError
+        For a word that is none of these, a node that the scenario does not have, or a stream of a mapping that is not named.
+    """
     if isinstance(receivers, Meant):
         return receivers
     given = scenario.receivers if receivers is None else receivers

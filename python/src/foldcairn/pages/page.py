@@ -55,31 +55,81 @@ _OFF = "rgba(127, 140, 160, 0.2)"
 
 @of_log
 def write(log: Log, path: str | os.PathLike[str], **given: Any) -> Path:
-    """Writes the page of a run into a file, and gives its path.
-
-    title, site, plan   the title, and the names of the site and of the plan, which stand below it
-    notes               text of your own, for instance for whom the page is; an empty line begins a paragraph
-    positions           places of the nodes for the map, as {id: (x, y)}
-    background, extent  a picture below the map, as in `plot.topology`
-    receivers           for whom packets are meant, in the forms of `foldcairn.receivers`; as the scenario says without it
-    battery             the words of `planning.battery_life`, as {"capacity_mah": 2500, "receive_ma": 20, "mains": [1], "target_days": 730}
-    deadline            a time in seconds: the summary says which part is delivered within it, and the picture of latencies marks it
+    """Writes the page of a run into a file.
 
     The same run and words give the same bytes. A link to the page may end with `#from=S&to=S`, two times in seconds, and the page
-    then begins there. Raises `OSError` where a file can't be read or written, and `ValueError` where a node has no place, or a
-    word is none of these.
+    then begins there.
+
+    Parameters
+    ----------
+    log : results.Log
+        The run.
+    path : path
+        The file, which is replaced where it is there.
+    **given
+        `title`, `site` and `plan`: the title, and the names of the site and of the plan, which stand below it. `notes`: text of your own, for
+        instance for whom the page is; an empty line begins a paragraph. `positions`: places of the nodes for the map, as {id: (x, y)}.
+        `background` and `extent`: a picture below the map, as in `plot.topology`. `receivers`: for whom packets are meant, in the forms of
+        `foldcairn.receivers`; as the scenario says without it. `battery`: the words of `planning.battery_life`, as
+        {"capacity_mah": 2500, "receive_ma": 20, "mains": [1], "target_days": 730}. `deadline`: a time in seconds; the summary says which part
+        is delivered within it, and the picture of latencies marks it.
+
+    Returns
+    -------
+    pathlib.Path
+        The path of the file.
+
+    Raises
+    ------
+    OSError
+        Where a file can't be read or written.
+    ValueError
+        Where a node has no place, or a word is none of these.
     """
     return files.write(path, text(log, **given).encode())
 
 
 @of_log
 def text(log: Log, **given: Any) -> str:
-    """The text of the page (see `write`)."""
+    """The text of the page of a run.
+
+    Parameters
+    ----------
+    log : results.Log
+        The run.
+    **given
+        The words of `write`.
+
+    Returns
+    -------
+    str
+        One HTML document, which needs no other file.
+
+    Raises
+    ------
+    OSError
+        Where a file can't be read.
+    ValueError
+        Where a node has no place, or a word is none of these.
+    """
     return of_settings(log, Settings.of(log.scenario, **given))
 
 
 def of_settings(log: Log, settings: Settings) -> str:
-    """The text of the page of these settings."""
+    """The text of the page of a run, with settings that were made before.
+
+    Parameters
+    ----------
+    log : results.Log
+        The run.
+    settings : settings.Settings
+        What `Settings.of` makes of the words of `write`.
+
+    Returns
+    -------
+    str
+        One HTML document, which needs no other file.
+    """
     # Of a network that a seed ran the ratios are all that tells the losses.
     scenario = (log.scenario.text if log.origin.seed is None else log.scenario.network_text)(warn=False)
     packed = {

@@ -48,16 +48,42 @@ class _About:
 def save(
     tables: Tables, path: str | os.PathLike[str], *, versions: Mapping[str, str] | None = None, seed: int | None = None, name: str = ""
 ) -> list[Path]:  # fmt: skip
-    """Writes tables by the ending of the path, all files or none of them, and gives their paths. Folders that are missing are made.
+    """Writes tables by the ending of a path, all files or none of them.
 
-    .csv, .parquet    a file for each table: FILE-TABLE.csv, or FILE.csv if there is one table
-    .json             an object with `versions`, `seed` if there is one, and for each table a list with an object a row
-    .xlsx             a sheet for each table, and one with the versions
-    .lp               a line for each row: the table is the measurement, what tells rows apart are the tags, with `name` as the tag `plan`,
-                      and the rest are the fields. Lines have no times, so what reads them takes its own
+    | ending | what is written |
+    |---|---|
+    | .csv, .parquet | a file for each table: FILE-TABLE.csv, or FILE.csv if there is one table |
+    | .json | an object with `versions`, `seed` if there is one, and for each table a list with an object a row |
+    | .xlsx | a sheet for each table, and one with the versions |
+    | .lp | a line for each row: the table is the measurement, what tells rows apart are the tags, with `name` as the tag `plan`, and the rest are the fields |
 
-    Parquet needs the module pyarrow, and Excel openpyxl. A text that a spreadsheet would take for a formula stays a text. Raises
-    `ArgumentError` where the ending is another one, a table is too long or a module is missing, and `OSError` where a file can't be written.
+    Lines of .lp have no times, so what reads them takes its own. Parquet needs the module pyarrow, and Excel openpyxl. A text that a spreadsheet
+    would take for a formula stays a text.
+
+    Parameters
+    ----------
+    tables : mapping
+        By name each table.
+    path : path
+        The file; folders that are missing are made.
+    versions : mapping, optional
+        The versions of the package and the programs, by name.
+    seed : int, optional
+        The seed of one draw.
+    name : str
+        The name of the plan.
+
+    Returns
+    -------
+    list of pathlib.Path
+        The paths of the files.
+
+    Raises
+    ------
+    ArgumentError
+        Where the ending is another one, a table is too long or a module is missing.
+    OSError
+        Where a file can't be written.
     """
     target = Path(path)
     kind = format_of(target)

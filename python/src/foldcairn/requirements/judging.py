@@ -37,13 +37,22 @@ _LITTLE = 1e-12
 class Rule:
     """What is required of each unit.
 
-    wanted        the value that is wanted: a share from 0 to 1, or a number
-    is_share      whether the values are shares of packets
-    at_least      whether the value has to be at least that, or at most
-    part          None: the mean over all draws counts; 0 to 1: in that part of the draws all units have to hold
-    confidence    of the verdict, 0 to 1
-    most          how many draws are allowed
-    own_networks  whether each draw has a network of its own, not only losses (`limits`)
+    Parameters
+    ----------
+    wanted : float
+        The value that is wanted: a share from 0 to 1, or a number.
+    is_share : bool
+        Whether the values are shares of packets.
+    at_least : bool
+        Whether the value has to be at least that, or at most.
+    part : float, optional
+        In which part of the draws, 0 to 1, all units have to hold; without it the mean over all draws counts.
+    confidence : float
+        That of the verdict, 0 to 1.
+    most : int
+        How many draws are allowed.
+    own_networks : bool
+        Whether each draw has a network of its own, not only losses (`limits`).
     """
 
     wanted: float
@@ -55,7 +64,18 @@ class Rule:
     own_networks: bool = False
 
     def holds(self, value: float) -> bool:
-        """Whether a value is as it is wanted."""
+        """Whether the value of a unit in a draw is as it is wanted.
+
+        Parameters
+        ----------
+        value : float
+            The value.
+
+        Returns
+        -------
+        bool
+            Whether it is at least, or at most, what is wanted.
+        """
         return value >= self.wanted - _LITTLE if self.at_least else value <= self.wanted + _LITTLE
 
     @property
@@ -69,14 +89,34 @@ class Rule:
         return self.at_least or self.part is not None
 
     def is_reached_by(self, value: float) -> bool:
-        """Whether the value of a verdict is as it is wanted."""
+        """Whether the value of a verdict is as it is wanted.
+
+        Parameters
+        ----------
+        value : float
+            The mean of a unit, or the part of the draws in which all hold.
+
+        Returns
+        -------
+        bool
+            Whether it is on the right side of `bound`.
+        """
         return value >= self.bound - _LITTLE if self.is_upwards else value <= self.bound + _LITTLE
 
 
 @dataclass(frozen=True)
 class Unit:
-    """A stream, a node, or one of these in a failure: its `values` in each draw, None where it has none (as no packet was due), and how
-    many `packets` are behind each (pairs of a packet and several receivers are one)."""
+    """A stream, a node, or one of these in a failure, with what was measured of it.
+
+    Parameters
+    ----------
+    name : str
+        Its name.
+    values : sequence of float or None
+        Its value in each draw, None where it has none (as no packet was due).
+    packets : sequence of int
+        How many packets are behind each; pairs of a packet and several receivers are one.
+    """
 
     name: str
     values: Sequence[float | None]
@@ -90,9 +130,25 @@ class Unit:
 
 @dataclass(frozen=True)
 class Judgement:
-    """A verdict: "met", "not met" or "not decided", with the `value` of the worst unit (NaN where there is none), its interval from `low` to
-    `high`, the `worst` unit's name, how many `draws` and `packets` are behind it, and how many draws a decision takes (None: none that
-    could be named; where it is decided, those that it took). `broken` names the units whose own interval lies on the wrong side."""
+    """A verdict, and what it goes by.
+
+    Attributes
+    ----------
+    verdict : str
+        "met", "not met" or "not decided".
+    value : float
+        The value of the worst unit; NaN where there is none.
+    low, high : float
+        The ends of its interval.
+    worst : str
+        The name of that unit.
+    draws, packets : int
+        How many draws and packets are behind it.
+    needs : int or None
+        How many draws a decision takes: None where none could be named; where it is decided, those that it took.
+    broken : tuple of str
+        The units whose own interval lies on the wrong side.
+    """
 
     verdict: str
     value: float
@@ -106,9 +162,25 @@ class Judgement:
 
 
 def judge(rule: Rule, *cases: Sequence[Unit]) -> Judgement:
-    """The verdict of the units of a case, which have the same number of draws, from 1 to `rule.most`; or of several cases, as failures, in each of
-    which the requirement has to hold, and which may have other numbers of draws. Raises `ValueError` where there is no unit or no draw, or the
-    numbers of draws of a case differ."""
+    """The verdict of the units of a case, or of several cases, as failures, in each of which the requirement has to hold.
+
+    Parameters
+    ----------
+    rule : Rule
+        What is required of each unit.
+    *cases : sequence of Unit
+        The units of each case, which have the same number of draws, from 1 to `rule.most`; other cases may have other numbers.
+
+    Returns
+    -------
+    Judgement
+        The verdict of all, with the numbers of the worst unit.
+
+    Raises
+    ------
+    ValueError
+        Where there is no unit or no draw, or the numbers of draws of a case differ.
+    """
     return _judged(rule, _looked(rule, cases), cases)
 
 

@@ -219,6 +219,17 @@ def _helps(one: Asked, draws: Draws, found: Judgement, looked: dict[cases.Case, 
 
 
 def status(table: pd.DataFrame) -> int:
-    """The exit status of `foldcairn verify`: 0 if all are met, 10 if some are not met or impossible, 11 if some are not decided."""
+    """The exit status of `foldcairn verify`.
+
+    Parameters
+    ----------
+    table : pandas.DataFrame
+        What `verdicts` gives.
+
+    Returns
+    -------
+    int
+        It is 0 if all are met, 10 if some are not met or impossible, and 11 if some are not decided.
+    """
     found = set(table["verdict"])
     return 10 if found & {NOT_MET, IMPOSSIBLE} else 11 if NOT_DECIDED in found else 0

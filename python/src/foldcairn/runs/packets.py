@@ -28,7 +28,15 @@ class NotAPacket(ValueError):
 
 @dataclass(frozen=True, order=True)
 class Owner:
-    """A stream of a node, which owns a data slot: `node` 1 to 200, `stream` 0 to 3."""
+    """A stream of a node, which owns a data slot.
+
+    Parameters
+    ----------
+    node : int
+        The id of the node, 1 to 200.
+    stream : int
+        The number of the stream, 0 to 3.
+    """
 
     node: int
     stream: int
@@ -41,8 +49,19 @@ class Owner:
 
 @dataclass(frozen=True, order=True)
 class Acknowledgement:
-    """A request that the host took: its `node` and `boot`, 1 to 200, its `stream`, 0 to 3, and its `interval` in seconds,
-    0 to 120, where 0 ends the stream."""
+    """A request that a host took.
+
+    Parameters
+    ----------
+    node : int
+        The id of the node, 1 to 200.
+    boot : int
+        Which boot of the node it is, 1 to 200.
+    stream : int
+        The number of the stream, 0 to 3.
+    interval : int
+        The interval in seconds, 0 to 120, where 0 ends the stream.
+    """
 
     node: int
     boot: int
@@ -57,8 +76,25 @@ class Acknowledgement:
 
 @dataclass(frozen=True)
 class Data:
-    """A data packet: `slot` 1 to 40, relay `counter` 0 to 11, the `node` that made it and its `boot`, 1 to 200, its `stream`,
-    0 to 3, its `number` in that stream and boot, 0 to 65,534, and its `payload` of 0 to 96 bytes."""
+    """A data packet.
+
+    Parameters
+    ----------
+    slot : int
+        The slot, 1 to 40.
+    counter : int
+        The relay counter, 0 to 11.
+    node : int
+        The id of the node, 1 to 200.
+    boot : int
+        Which boot of the node it is, 1 to 200.
+    stream : int
+        The number of the stream, 0 to 3.
+    number : int
+        The packet's number in that stream and boot, 0 to 65,534.
+    payload : bytes
+        What it carries, 0 to 96 bytes.
+    """
 
     slot: int
     counter: int
@@ -73,8 +109,23 @@ class Data:
 
 @dataclass(frozen=True)
 class Request:
-    """A request for a stream: `slot` 1 to 44, relay `counter` 0 to 11, `node` and `boot`, 1 to 200, `stream` 0 to 3, and the
-    `interval` that is asked for, 1 to 120 seconds; 0 ends the stream."""
+    """A request for a stream.
+
+    Parameters
+    ----------
+    slot : int
+        The slot, 1 to 44.
+    counter : int
+        The relay counter, 0 to 11.
+    node : int
+        The id of the node, 1 to 200.
+    boot : int
+        Which boot of the node it is, 1 to 200.
+    stream : int
+        The number of the stream, 0 to 3.
+    interval : int
+        The interval that is asked for, in seconds, 1 to 120; 0 ends the stream.
+    """
 
     slot: int
     counter: int
@@ -88,12 +139,26 @@ class Request:
 
 @dataclass(frozen=True)
 class Schedule:
-    """A schedule of a host, which opens a round (`gap` 0) or closes it (`gap` 1 to 4 frames to the next round).
+    """A schedule of a host, which opens a round or closes it.
 
-    `slot` is 0 in an opening, and 2 to 45 in a closing; `counter` is 0 to 11, `rank` 0 to 3 and `host_boot` 1 to 200.
-    `contend` is the number of contention slots that the schedule names, 1 to 4, and 0 in version 1, which names none and has
-    one. There are at most 4 acknowledgements, in version 1 at most one, by strictly ascending codes, and at most 40 owners by
-    ascending codes: owner i, counted from 0, has data slot i + 1 of the round that the schedule plans.
+    Parameters
+    ----------
+    slot : int
+        It is 0 in an opening, and 2 to 45 in a closing.
+    counter : int
+        The relay counter, 0 to 11.
+    rank : int
+        The rank of the host, 0 to 3.
+    gap : int
+        In a closing the frames to the next round, 1 to 4; 0 in an opening.
+    host_boot : int
+        Which boot of the host it is, 1 to 200.
+    contend : int
+        The number of contention slots that the schedule names, 1 to 4, and 0 in version 1, which names none and has one.
+    acknowledgements : tuple of Acknowledgement
+        At most 4, in version 1 at most one, by strictly ascending codes.
+    owners : tuple of Owner
+        At most 40, by ascending codes: owner i, counted from 0, has data slot i + 1 of the round that the schedule plans.
     """
 
     slot: int
@@ -120,7 +185,23 @@ Packet = Data | Request | Schedule
 
 
 def decode(packet: bytes | str) -> Packet:
-    """The packet of these bytes, or of their hexadecimal digits. Raises `NotAPacket` where they are none."""
+    """The packet of some bytes.
+
+    Parameters
+    ----------
+    packet : bytes or str
+        The bytes, 3 to 125, or their hexadecimal digits.
+
+    Returns
+    -------
+    Data, Request or Schedule
+        The packet.
+
+    Raises
+    ------
+    NotAPacket
+        Where they are none; it says which field is wrong.
+    """
     try:
         data = bytes.fromhex(packet) if isinstance(packet, str) else bytes(packet)
         if not 3 <= len(data) <= 125:
@@ -136,7 +217,23 @@ def decode(packet: bytes | str) -> Packet:
 
 
 def encode(packet: Packet) -> bytes:
-    """The bytes of a packet. Raises `NotAPacket` where a field is out of its range."""
+    """The bytes of a packet.
+
+    Parameters
+    ----------
+    packet : Data, Request or Schedule
+        The packet.
+
+    Returns
+    -------
+    bytes
+        What `decode` makes this packet of.
+
+    Raises
+    ------
+    NotAPacket
+        Where a field is out of its range.
+    """
     if isinstance(packet, Data):
         return _encode_data(packet)
     if isinstance(packet, Request):

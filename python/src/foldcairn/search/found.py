@@ -25,24 +25,38 @@ COLUMNS = ("verdict", "requirement", "life_years", "life_low", "life_high", "mar
 class Found:
     """What `planning.search` has found.
 
-    table      a row for each setting, the best first: a column for each word that is searched, and what is below
-    best       the plan with the setting that meets all requirements at the longest life; where none is known to, with one of which that is not
-               decided; None where there is neither
-    nearest    the plan with the setting of the first row
-    setting    the setting of that row
-    verdicts   the verdicts of the best, as those of `planning.verdicts` for this plan; None where there is none
-    limits     what limits it, in sentences
+    Attributes
+    ----------
+    table : pandas.DataFrame
+        A row for each setting, the best first: a column for each word that is searched, and these.
 
-    verdict        "met", "not decided", "outdone" (others looked better, so it got no more draws), "not met", or "impossible", where arithmetic says
-                   so, and nothing was run
-    requirement    the first requirement that fails, or that its draws missed; empty where none did
-    life_years, life_low, life_high    how long the battery lasts that is empty first, and the interval; as if nodes had batteries where
-                   all are on mains
-    margin, margin_low, margin_high    by how much the worst share of packets is above what is wanted, of the requirement of which that is
-                   least, and its interval: below 0 it is missed. Missing where no requirement is one of packets
-    worst          the stream of that share
-    draws          how many draws there were of what is as planned, those of its verdict included
-    why            why it is impossible
+        verdict
+            "met", "not met", "not decided", "outdone" (others looked better, so it got no more draws), or "impossible", where arithmetic says so,
+            and nothing was run
+        requirement
+            the first requirement that fails, or that its draws missed; empty where none did
+        life_years, life_low, life_high
+            how long the battery lasts that is empty first, and the interval; as if nodes had batteries where all are on mains
+        margin, margin_low, margin_high
+            by how much the worst share of packets is above what is wanted, of the requirement of which that is least, and its interval: below 0 it
+            is missed; missing where no requirement is one of packets
+        worst
+            the stream of that share
+        draws
+            how many draws there were of what is as planned, those of its verdict included
+        why
+            why it is impossible
+    best : Plan or None
+        The plan with the setting that meets all requirements at the longest life; where none is known to, with one of which that is not decided;
+        None where there is neither.
+    nearest : Plan
+        The plan with the setting of the first row.
+    setting : dict
+        The setting of that row.
+    verdicts : pandas.DataFrame or None
+        The verdicts of the best, as those of `planning.verdicts` for this plan; None where there is none.
+    limits : list of str
+        What limits it, in sentences.
     """
 
     table: pd.DataFrame

@@ -21,10 +21,28 @@ __all__ = ["NotThere", "text", "write"]
 
 
 def write(plan: Plan | str | os.PathLike[str] | None, path: str | os.PathLike[str]) -> Path:
-    """Writes the page of a plan, of a plan file, or without one (None) of an example, into a file, and gives its path.
+    """Writes the page of a plan into a file.
 
-    Raises `PlanError` where the plan is none, `NotThere` where this copy has no WebAssembly module, and `OSError` where a file can't be read or
-    written.
+    Parameters
+    ----------
+    plan : Plan, path or None
+        The plan, or its file; None for an example.
+    path : path
+        The file of the page, which is replaced where it is there.
+
+    Returns
+    -------
+    pathlib.Path
+        The path of the page.
+
+    Raises
+    ------
+    PlanError
+        Where the plan is none.
+    NotThere
+        Where this copy has no WebAssembly module.
+    OSError
+        Where a file can't be read or written.
     """
     # Here, since other commands have no need of jinja2.
     from . import writing
@@ -33,7 +51,27 @@ def write(plan: Plan | str | os.PathLike[str] | None, path: str | os.PathLike[st
 
 
 def text(plan: Plan | str | os.PathLike[str] | None = None) -> str:
-    """The text of the page (see `write`): the same plan gives the same text."""
+    """The text of the page of a plan: the same plan gives the same text.
+
+    Parameters
+    ----------
+    plan : Plan, path or None
+        The plan, or its file; None for an example.
+
+    Returns
+    -------
+    str
+        One HTML document, which needs no other file.
+
+    Raises
+    ------
+    PlanError
+        Where the plan is none.
+    NotThere
+        Where this copy has no WebAssembly module.
+    OSError
+        Where a file can't be read.
+    """
     from . import writing
 
     return writing.text(plan)
