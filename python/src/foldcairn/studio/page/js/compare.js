@@ -30,7 +30,8 @@ export function differenceOf(one, other) {
 
 /** @param {number} value @param {(value: number) => string} shown */
 function signed(value, shown) {
-  return `${value < 0 ? "−" : "+"}${shown(Math.abs(value))}`;
+  const text = shown(Math.abs(value));
+  return text === shown(0) ? text : `${value < 0 ? "−" : "+"}${text}`;
 }
 
 /** What is compared: each stream's share, and the least battery.

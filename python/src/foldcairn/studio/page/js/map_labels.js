@@ -4,7 +4,7 @@
 /** @typedef {{ name: string, x: number, y: number, width: number, first: boolean }} Wanted in pixels; those that come first get a place before others */
 /** @typedef {{ x: number, y: number, anchor: string }} Placed */
 
-const HEIGHT = 15, AWAY = 13, NODE = 10;
+const HEIGHT = 15, AWAY = 16, NODE = 10;
 // Where a label may stand, best first: beside, below and above its node.
 const SIDES = /** @type {[number, number, string][]} */ ([
   [AWAY, 5, "start"], [0, AWAY + 12, "middle"], [-AWAY, 5, "end"], [0, -AWAY, "middle"], [AWAY - 2, AWAY + 6, "start"], [-AWAY + 2, AWAY + 6, "end"],
