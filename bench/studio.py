@@ -2,7 +2,8 @@
 """Times the planner's page in headless Chromium, on a plan of 64 nodes and 32 streams over an hour: the first picture, the frames a second while
 a node is dragged, and how long after the last movement the answers of 8 seeds are shown. The least (of frames the most) of several runs, and the median.
 
-Usage: bench/studio.py [RUNS] [--profile 1|2] [--write FILE], 7 runs in profile 1 without them; --write writes the plan and measures nothing. Tested, not proved.
+Usage: bench/studio.py [RUNS] [--profile 1|2] [--write FILE], 7 runs in profile 1 without them; --write writes the plan and measures nothing. Tested, not
+proved.
 """
 
 from __future__ import annotations
@@ -15,6 +16,7 @@ import statistics
 import sys
 import tempfile
 import time
+from typing import Any
 
 TOP = pathlib.Path(__file__).resolve().parent.parent
 sys.path[:0] = [str(TOP / "python/src"), str(TOP / "python/tests")]
@@ -72,23 +74,20 @@ def main() -> int:
     return 0
 
 
-def one_run(browser, address: str, found: dict[str, list[float]]) -> None:
+def one_run(browser: Any, address: str, found: dict[str, list[float]]) -> None:
     """Opens the page, drags a node, and lets it go."""
     browser.call("Emulation.setDeviceMetricsOverride", width=WIDTH, height=HEIGHT, deviceScaleFactor=1, mobile=False)
     browser.call(
         "Page.addScriptToEvaluateOnNewDocument",
         source="globalThis.times = {}; const until = setInterval(() => { const now = performance.now();"
-        " if (!times.picture && document.querySelectorAll('#map [data-name]').length === 64) requestAnimationFrame(() => setTimeout(() => { times.picture ??= now; }));"
+        " if (!times.picture && document.querySelectorAll('#map [data-name]').length === 64)"
+        " requestAnimationFrame(() => setTimeout(() => { times.picture ??= performance.now(); }));"
         " if (['few', 'all'].includes(document.body?.dataset.ready)) { times.answers = now; clearInterval(until); } }, 5);",
     )
     browser.call("Page.navigate", url=address)
     browser.wait("document.body?.dataset.ready === 'all'")
     found["first picture, s"].append(browser.evaluate("times.picture") / 1000)
     found["first answers, s"].append(browser.evaluate("times.answers") / 1000)
-    browser.evaluate(
-        "(() => { globalThis.shown = []; const one = (at) => { shown.push(at); if (shown.length < 100000) requestAnimationFrame(one); };"
-        " requestAnimationFrame(one); })()"
-    )
     # Frames in which the map was drawn, by how often its ground is.
     browser.evaluate(
         "(() => { globalThis.drawn = []; const old = foldcairnPage.map.ground.draw; foldcairnPage.map.ground.draw = function (map, shown) {"
@@ -96,7 +95,10 @@ def one_run(browser, address: str, found: dict[str, list[float]]) -> None:
     )
     box = f"document.querySelector('[data-name=\"{MOVED}\"] .symbol').getBoundingClientRect()"
     x, y = browser.evaluate(f"(box => [box.x + box.width / 2, box.y + box.height / 2])({box})")
-    mouse = lambda kind, at: browser.call("Input.dispatchMouseEvent", type=kind, x=at, y=y, button="left", buttons=1, clickCount=1)  # noqa: E731
+
+    def mouse(kind: str, at: float) -> None:
+        browser.call("Input.dispatchMouseEvent", type=kind, x=at, y=y, button="left", buttons=1, clickCount=1)
+
     mouse("mouseMoved", x)
     mouse("mousePressed", x)
     start = browser.evaluate("performance.now()")
@@ -110,7 +112,7 @@ def one_run(browser, address: str, found: dict[str, list[float]]) -> None:
     browser.evaluate(
         "(() => { globalThis.last = null; const generation = Number(document.body.dataset.generation);"
         " const after = () => { const found = foldcairnPage.found;"
-        " if (found.plan === foldcairnPage.store.state.plan && !foldcairnPage.dragged && Number(document.body.dataset.done) >= 8"
+        " if (found.plan === foldcairnPage.store.state.plan && document.body.dataset.older === 'false' && Number(document.body.dataset.done) >= 8"
         " && document.body.dataset.generation === String(found.generation)) requestAnimationFrame(() => { last = performance.now(); });"
         " else setTimeout(after, 4); }; globalThis.begin = () => { globalThis.begun = performance.now(); after(); }; })()"
     )

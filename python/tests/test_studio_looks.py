@@ -15,13 +15,15 @@ SIZES = {"desk": (1400, 900, False), "tablet": (820, 1180, True), "phone": (390,
 TABS = ("answers", "plan", "compare", "flood", "files")
 # What lies over another one of these elements, or nearer than a pixel to it.
 _NEAR = """(selector => {
-  const all = [...document.querySelectorAll(selector)].filter((one) => one.checkVisibility()).map((one) => [one.textContent, one.getBoundingClientRect()]).filter(([, box]) => box.width && box.height);
+  const all = [...document.querySelectorAll(selector)].filter((one) => one.checkVisibility())
+    .map((one) => [one.textContent, one.getBoundingClientRect()]).filter(([, box]) => box.width && box.height);
   return all.flatMap(([one, box], place) => all.slice(place + 1).filter(([, other]) => box.left < other.right + 1 && other.left < box.right + 1
     && box.top < other.bottom + 1 && other.top < box.bottom + 1).map(([other]) => `${one} | ${other}`));
 })"""
 # Texts that have less room than they need.
 _CUT = """[...document.querySelectorAll('button, label, summary, h1, h2, h3, li, dd, dt, legend')]
-  .filter((one) => one.checkVisibility() && one.scrollWidth > one.clientWidth + 1 && one.clientWidth && getComputedStyle(one).display !== 'inline').map((one) => one.textContent)"""
+  .filter((one) => one.checkVisibility() && one.scrollWidth > one.clientWidth + 1 && one.clientWidth && getComputedStyle(one).display !== 'inline')
+  .map((one) => one.textContent)"""
 
 
 @needs_browser

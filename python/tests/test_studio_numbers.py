@@ -85,7 +85,8 @@ def _is_as_measured(plan: Plan, found: dict[str, Any]) -> None:
         due = measuring.measure(measuring.Task(plan, case, tuple(asked)), SEEDS)
         for draw, values in zip(one["draws"], due, strict=True):
             for there, wanted in zip(draw["requirements"], values, strict=True):
-                assert there == {name: [value if value is None else pytest.approx(value, rel=1e-12), packets] for name, (value, packets) in wanted.items()}, case
+                close = {name: None if value is None else pytest.approx(value, rel=1e-12) for name, (value, _) in wanted.items()}
+                assert there == {name: [close[name], packets] for name, (_, packets) in wanted.items()}, case
 
 
 def _is_as_drawn(plan: Plan, found: dict[str, Any]) -> None:

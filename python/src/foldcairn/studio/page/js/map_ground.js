@@ -100,8 +100,8 @@ export class Ground {
 function sheetOf(map, shown) {
   const isDragged = shown.moving.size > 0;
   return [
-    ...map.size, ...map.centre, map.zoom, window.devicePixelRatio, window.matchMedia("(prefers-color-scheme: dark)").matches,
-    shown.floor, shown.threshold, shown.picture, shown.selected.join("\n"),
+    ...map.size, ...map.centre, map.zoom,
+    window.devicePixelRatio, window.matchMedia("(prefers-color-scheme: dark)").matches, shown.floor, shown.threshold, shown.picture, shown.selected.join("\n"),
     [...shown.moving].join("\n"), isDragged ? shown.version : shown.pairs, isDragged ? null : shown.plan,
   ];
 }
