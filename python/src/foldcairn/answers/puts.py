@@ -107,14 +107,17 @@ class Puts:
 
 def of_script(scenario: Scenario) -> Puts:
     """The put lines of a scenario, with what its script says of each."""
-    told = Puts()
+    ordered = script(scenario)
+    told = Puts(rows=[line for line in ordered if isinstance(line, Put)])
+    count = len(told.rows)
+    told.cleared, told.cleared_frame = [""] * count, [-1] * count
     boot: Counter[int] = Counter()
     queues: dict[int, dict[int, _Queue]] = {}
-    for line in script(scenario):
+    for line in ordered:
         streams = queues.get(line.node)
         # Most lines are puts.
         if isinstance(line, Put):
-            _put(told, line, streams[line.stream] if streams is not None else None, boot[line.node])
+            _put(told, streams[line.stream] if streams is not None else None, boot[line.node])
         elif isinstance(line, On) and streams is None:
             boot[line.node] += 1
             queues[line.node] = {stream: _Queue(told.next_filling()) for stream in range(4)}
@@ -138,16 +141,14 @@ def _clear(told: Puts, queue: _Queue, why: str, where: tuple[int, int, int]) -> 
     told.emptied.add(where)
 
 
-def _put(told: Puts, line: Put, queue: _Queue | None, boot: int) -> None:
+def _put(told: Puts, queue: _Queue | None, boot: int) -> None:
+    """The next put goes to this queue, or to none."""
     dropped, filling = OFF if queue is None else NO_STREAM, 0
     if queue is not None and queue.requested:
-        queue.waiting.append(len(told.rows))
+        queue.waiting.append(len(told.dropped))
         dropped, filling = "", queue.filling
-    told.rows.append(line)
     told.boot.append(0 if queue is None else boot)
     told.dropped.append(dropped)
-    told.cleared.append("")
-    told.cleared_frame.append(-1)
     told.filling.append(filling)
 
 

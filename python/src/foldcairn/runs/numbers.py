@@ -65,15 +65,16 @@ def _output(scenario: Scenario, seed: int, timeout: float | None) -> bytes:
     return programs.execute(["outcome", str(seed)], text, program=programs.find_planner(), timeout=timeout)
 
 
-def _parts(output: bytes) -> tuple[bytes, bytes, bytes]:
-    """The lines of deliveries, of drops and of costs, which come in this order. The first are many, so they are looked for from the end."""
+def _parts(output: bytes) -> tuple[memoryview, bytes, bytes]:
+    """The lines of deliveries, of drops and of costs, which come in this order. The first are many, so they are looked for from the end, and not
+    copied."""
     last = output.rfind(b"\ndeliver ") + 1
     drops = output.index(b"\n", last) + 1 if last or output.startswith(b"deliver ") else 0
     costs = drops if output.startswith(b"cost ", drops) else output.find(b"\ncost ", drops) + 1
-    return output[:drops], output[drops:costs], output[costs:]
+    return memoryview(output)[:drops], output[drops:costs], output[costs:]
 
 
-def _numbers(deliveries: bytes, nodes: list[int] | None) -> list[Places]:
+def _numbers(deliveries: memoryview, nodes: list[int] | None) -> list[Places]:
     """The numbers of `deliver` lines, at these nodes, in columns. There are some hundred thousand lines, mostly at other nodes, so no more is
     read of these than their node. Raises `program.CutOutput` where the lines are others."""
     letters = np.frombuffer(deliveries, np.uint8)
