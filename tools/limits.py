@@ -26,7 +26,7 @@ TAKEN = {
     "node_streams/src/stream.rt": {"ROOM": "QUEUE_LENGTH"},
     "stream_table/src/table_entry.rt": {"UNHEARD": "EMPTY_SLOTS"},
 }
-HEAD = '"""The numbers that the rules and the texts fix, as the sources of the programs have them: written by tools/limits.py."""\n'
+HEAD = '"""The numbers that the rules and the texts fix, as the sources of the programs have them. Written by tools/limits.py. Tested, not proved."""\n'
 
 
 def constants(path: pathlib.Path) -> dict[str, tuple[str, str]]:

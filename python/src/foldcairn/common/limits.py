@@ -1,4 +1,4 @@
-"""The numbers that the rules and the texts fix, as the sources of the programs have them: written by tools/limits.py."""
+"""The numbers that the rules and the texts fix, as the sources of the programs have them. Written by tools/limits.py. Tested, not proved."""
 
 # The most frames from one round of a host to its next.
 GREATEST_GAP = 4
