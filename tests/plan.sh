@@ -134,15 +134,39 @@ worked_sample() {
 worked_bounds() {
     local two=$'sends 1\nnode 1 0\nnode 2 0\nhost 0 1\nhost 1 2\npair 1 2\n'
     run_on "${two}frames 40"$'\non 0 1\non 0 2\noff 6 1\nratios\nratio 0 1 2 500000\n' bounds
-    ends "bounds of a host that fails" 0 $'holds first 1 0 5 5\nopen failover 1 power\nholds failover 2 6 27 21\n'
+    ends "bounds of a host that fails" 0 $'holds first 1 0 5 5\nopen failover 1 power\nholds failover 2 6 27 21\nopen joined 2 0 power 10\nopen scanning 2 0 power 10\n'
     run_on $'sends 1\nnode 1 0\nnode 2 0\nhost 0 1\npair 1 2\nframes 20\n# three boots\n\non 0 1\noff 3 1\non 7 1\noff 13 1\non 16 1\n' bounds
-    ends "bounds of a host that boots thrice" 0 $'open first 1 0 power 10\nholds first 1 7 12 5\nopen first 1 16 rounds\nopen failover 1 power\n'
+    ends "bounds of a host that boots thrice" 0 $'open first 1 0 power 10\nholds first 1 7 12 5\nopen first 1 16 rounds\nopen failover 1 power\nopen joined 2 0 power 10\nopen scanning 2 0 power 10\nopen joined 2 7 power 12\nopen scanning 2 7 power 12\nopen joined 2 16 power\nopen scanning 2 16 power\n'
     run_on "${two}frames 20"$'\non 0 2\non 4 1\noff 4 1\n' bounds
-    ends "bounds of a host that is on for no frame" 0 $'open first 1 boots\nopen failover 1 power\nopen failover 2 4 rounds\n'
+    ends "bounds of a host that is on for no frame" 0 $'open first 1 boots\nopen failover 1 power\nopen failover 2 4 rounds\nopen joined 2 boots\nopen scanning 2 boots\n'
     run_on "${two}frames 60"$'\non 0 1\non 0 2\noff 6 1\non 20 1\n' bounds
-    ends "bounds of a host that comes back" 0 $'holds first 1 0 5 5\nholds first 1 20 25 5\nopen failover 1 power\nopen failover 2 6 power 11\n'
+    ends "bounds of a host that comes back" 0 $'holds first 1 0 5 5\nholds first 1 20 25 5\nopen failover 1 power\nopen failover 2 6 power 11\nopen joined 2 0 power 10\nopen scanning 2 0 power 10\nopen joined 2 20 power 9\nopen scanning 2 20 power 9\n'
     run_on "${two}frames 60"$'\non 0 1\non 0 2\noff 6 1\noff 10 2\n' bounds
-    ends "bounds of two hosts that fail" 0 $'holds first 1 0 5 5\nopen failover 1 10 power 10\nopen failover 2 6 power 11\n'
+    ends "bounds of two hosts that fail" 0 $'holds first 1 0 5 5\nopen failover 1 10 power 10\nopen failover 2 6 power 11\nopen joined 2 0 power 10\nopen scanning 2 0 power 10\n'
+}
+
+# Nodes that join, in a chain of three: what holds, and each premise that fails in turn. The first line after the frames is line 9.
+worked_joins() {
+    local first=$'holds first 1 0 5 5\nopen failover 1 power\n'
+    local chain=$'sends 1\nnode 1 0\nnode 2 0\nnode 3 0\nhost 0 1\npair 1 2\npair 2 3\nframes 40\n'
+    local two=$'holds joined 2 0 6 6\nholds scanning 2 0 6 4\n'
+    run_on "${chain}on 0 1"$'\non 2 2\non 5 3\n' bounds
+    ends "bounds of nodes that join" 0 "$first$two"$'holds joined 3 0 6 6\nholds scanning 3 0 6 4\n'
+    run_on "${chain}lose 5 1 2 2 1"$'\non 0 1\non 2 2\non 5 3\n' bounds
+    ends "bounds with a line of losses" 0 "$first"$'open joined 2 0 loss 9\nopen scanning 2 0 loss 9\nopen joined 3 0 loss 9\nopen scanning 3 0 loss 9\n'
+    run_on "${chain}cut 5 1 2 3"$'\non 0 1\non 2 2\non 5 3\n' bounds
+    ends "bounds with a cut" 0 "$first"$'open joined 2 0 loss 9\nopen scanning 2 0 loss 9\nopen joined 3 0 loss 9\nopen scanning 3 0 loss 9\n'
+    run_on "${chain}on 0 1"$'\non 2 2\non 5 3\nratios\nratio 0 2 3 1000000\nratio 5 2 3 999999\n' bounds
+    ends "bounds with a ratio that changes" 0 "$first"$'open joined 2 0 ratio 14\nopen scanning 2 0 ratio 14\nopen joined 3 0 ratio 14\nopen scanning 3 0 ratio 14\n'
+    run_on "${chain}on 0 1"$'\non 2 2\non 5 3\nratios\nratio 0 2 3 999999\nratio 5 2 3 1000000\nratio 6 2 3 0\n' bounds
+    ends "bounds with ratios of other frames" 0 "$first$two"$'holds joined 3 0 6 6\nholds scanning 3 0 6 4\n'
+    run_on "${chain}on 0 1"$'\non 5 3\non 6 2\n' bounds
+    ends "bounds of a node behind one that is late" 0 "$first"$'open joined 2 0 power\nopen scanning 2 0 power\nopen joined 3 0 reach\nopen scanning 3 0 reach\n'
+    run_on "${chain}on 0 1"$'\non 2 2\non 5 3\noff 6 2\n' bounds
+    ends "bounds of a node behind one that goes off" 0 "$first"$'open joined 2 0 power 12\nopen scanning 2 0 power 12\nopen joined 3 0 reach\nopen scanning 3 0 reach\n'
+    run_on "${chain}on 34 1"$'\non 34 2\non 34 3\n' bounds
+    ends "bounds of nodes whose run ends after the first round" 0 \
+        $'holds first 1 34 39 5\nopen failover 1 power\nopen joined 2 34 rounds\nopen scanning 2 34 rounds\nopen joined 3 34 rounds\nopen scanning 3 34 rounds\n'
 }
 
 # hosts_of FILE: the rank and the node of each host.
@@ -668,6 +692,7 @@ worked_sample
 worked_log
 runs_are_outcomes
 worked_bounds
+worked_joins
 samples_are_fates
 worked_draw
 draws_are_outcomes

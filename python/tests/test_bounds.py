@@ -6,9 +6,11 @@ from __future__ import annotations
 import random
 import re
 from collections import Counter, defaultdict
+from collections.abc import Iterator
 
 import pytest
 from conftest import EXAMPLES, REPOSITORY
+from joining import written
 from networks import FAILOVER, log_of
 from scenarios import planned_grid
 
@@ -21,9 +23,42 @@ from foldcairn.model.scenario import Scenario, line
 from foldcairn.pages import report
 from foldcairn.runs import losses, program, results
 
+_execute = program.execute
+
 PAGE = (REPOSITORY / "docs" / "BOUNDS.md").read_text(encoding="utf-8")
 WORKED = {name: Scenario.read(text) for name, text in re.findall(r"^```text (\w+)\.scenario\n(.*?)^```", PAGE, re.DOTALL | re.MULTILINE)}
 BACKUP = EXAMPLES / "backup-host-takes-over.scenario"
+
+
+def with_lines_of_nodes(words: list[str], text: str, **more) -> bytes:
+    """What a program that decides of each node whether it joins writes: those lines are worked out. One that writes them writes the same."""
+    output = _execute(words, text, **more)
+    if words != ["bounds"]:
+        return output
+    lines, made = output.decode().splitlines(), list(written(text))
+    of_hosts = [line for line in lines if line.split()[1] not in ("joined", "scanning")]
+    assert lines in (of_hosts, of_hosts + made)
+    return "".join(f"{line}\n" for line in of_hosts + made).encode()
+
+
+def without_lines_of_nodes(words: list[str], text: str, **more) -> bytes:
+    """What a program that decides nothing of nodes writes."""
+    output = _execute(words, text, **more)
+    if words != ["bounds"]:
+        return output
+    return "".join(line for line in output.decode().splitlines(keepends=True) if line.split()[1] not in ("joined", "scanning")).encode()
+
+
+@pytest.fixture(autouse=True)
+def _older_program(monkeypatch: pytest.MonkeyPatch) -> None:
+    """A program that decides nothing of nodes, but where a test says otherwise: so what is in the way is what is worked out here."""
+    monkeypatch.setattr(program, "execute", without_lines_of_nodes)
+
+
+@pytest.fixture
+def decides(monkeypatch: pytest.MonkeyPatch) -> None:
+    """A program that decides of each node whether it joins."""
+    monkeypatch.setattr(program, "execute", with_lines_of_nodes)
 
 
 def found(scenario: Scenario, bound: str) -> list[Bound]:
@@ -176,6 +211,60 @@ def without(made: Scenario, kind: type, node: int) -> Scenario:
 def test_what_is_in_the_way(bound, build, says) -> None:
     row = found(build(), bound)[0]
     assert row.holds == "no" and says in row.premise
+
+
+@pytest.mark.usefixtures("decides")
+@pytest.mark.parametrize(
+    ("build", "of", "says"),
+    [
+        (lambda: network(), "all nodes", ""),
+        (lambda: network().off(4, frame=2), "node 4", "node 4 is switched off in frame 2 (8 s)"),
+        (lambda: network().off(2, frame=6), "all nodes", "node 2 is switched off in frame 6 (24 s); nodes 3, 4 are out of reach of the host"),
+        (lambda: network().off(1, frame=6), "all nodes", "node 1 is switched off in frame 6 (24 s)"),
+        (lambda: without(network(), On, 4), "node 4", "node 4 has no power from then to frame 5 (20 s) on"),
+        (lambda: without(network(), On, 4).on(4, frame=6), "node 4", "node 4 has no power from then to frame 5 (20 s) on"),
+        (lambda: without(network(), On, 1).on(1, frame=3), "all nodes",
+         "nodes 2, 3, 4 are on from before, and not switched on from frame 3 (12 s) to frame 8 (32 s)"),
+        (lambda: without(network(), On, 1).on(1, frame=3).off(1, frame=3), "all nodes", "node 1 is on in no frame"),
+        (lambda: network(6), "all nodes", "the run ends before frame 6 (24 s)"),
+        (lambda: network().cut(5, 0, 0, 2), "all nodes", "packets may be lost in frame 5 (20 s), by a line `cut`"),
+        (lambda: network().lose(5, 3, 2, 2, 1), "all nodes", "packets may be lost in frame 5 (20 s), by a line `lose`"),
+        (lambda: network().ratio(3, 2, 0.9, frame=5), "all nodes", "packets may be lost in frame 5 (20 s), by a ratio, from node 3 to node 2"),
+        (lambda: network().unlink(3, 4), "node 4", "node 4 is out of reach of the host"),
+        (lambda: Scenario.from_graph(line(14), 60, hosts=[1]), "node 14", "node 14 is out of reach of the host"),
+        (lambda: named(network().unlink(3, 4)), "node {4}", "node {4} is out of reach of the host"),
+        (lambda: named(network().off(4, frame=2)), "node {4}", "node {4} is switched off in frame 2 (8 s)"),
+    ],
+)  # fmt: skip
+def test_what_keeps_nodes_out(build, of, says) -> None:
+    """The program decides of each node: what is open has a row with what breaks it, before the one of the nodes of which it holds."""
+    made = build()
+    for bound, more, frames in (("membership", "", 6), ("scanning", ", for each round with losses", 4)):
+        first, *others = found(made, bound)
+        assert first.of.replace("a member,", "all nodes,") == f"{of}{more}" and first.frames == frames
+        assert (first.holds, "; ".join(first.wrong)) == ("no" if says else "yes", says)
+        assert [one.holds for one in others] == ([] if of == "all nodes" else ["yes"])
+
+
+def named(made: Scenario) -> Scenario:
+    """The network with names of nodes that have braces."""
+    made.labels = {node: f"{{{node}}}" for node in made.nodes}
+    return made
+
+
+@pytest.mark.usefixtures("decides")
+def test_members_that_the_program_decides() -> None:
+    """For as long as the premise says; each boot of the host has its rows."""
+    assert only(WORKED["first"], "membership").holds == only(WORKED["missed"], "scanning").holds == "yes"
+    assert "which holds up to frame 9 (36 s): so long they stay members" in only(WORKED["missed"], "membership").premise
+    late = only(WORKED["missed"].copy().lose(21, 0, 0, 1, 2), "scanning")
+    assert late.holds == "yes" and "follow one another, which holds up to frame 21 (84 s)" in late.premise
+    assert "which holds up to frame 26 (104 s)" in only(relay_goes_off(), "scanning").premise
+    twice = network().off(1, 2, 3, 4, frame=10).on(1, 2, 3, frame=20)
+    assert [(one.of, one.begins, one.holds) for one in found(twice, "membership")] == [
+        ("all nodes", 0, "yes"), ("node 4", 20, "no"), ("nodes 2, 3", 20, "yes"),
+    ]  # fmt: skip
+    assert not found(Scenario(9).node(1).node(2).host(0, 1), "membership")
 
 
 def test_what_is_not_in_the_way() -> None:
@@ -468,6 +557,32 @@ class Ran:
         before, after = self.scanned(start), self.scanned(self.frames)
         assert all(after[node] - before[node] <= most for node in before)
 
+    def offs(self, first: int) -> Iterator[int]:
+        """The frames after that one in which a node goes off, and the end of the run."""
+        yield from (event.frame for event in self.network.script if isinstance(event, Off) and event.frame > first)
+        yield self.frames
+
+    def members_stay(self, first: int, nodes: set[int]) -> None:
+        """They scan in no frame after their first round, as long as nothing is lost and nobody goes off."""
+        end = min([*self.offs(first), *(frame + 1 for frame in self.lossy if frame > first)])
+        before, after = self.scanned(first + 1), self.scanned(end - 1)
+        assert end <= first + 2 or all(after[node] == before[node] for node in nodes)
+
+    def members_scan_few(self, first: int, nodes: set[int]) -> int:
+        """They scan few frames for each round with losses; gives in how many they do."""
+        end, row, lossy = min(self.offs(first)) - 1, 0, []
+        for frame in sorted(frame for frame, rank in self.rounds if rank == 0 and first < frame < end):
+            row = row + 1 if frame in self.lossy else 0
+            lossy += [frame] if row else []
+            if row > 3:
+                end = frame
+                break
+        if end <= first:
+            return 0
+        before, after = self.scanned(first + 1), self.scanned(end)
+        assert all(after[node] - before[node] <= 4 * sum(frame < end for frame in lossy) for node in nodes)
+        return max((after[node] - before[node] for node in nodes), default=0)
+
     def failover(self, row: Bound) -> None:
         host, by = int(row.of.split()[1]), row.begins + row.frames
         hosts = set(self.network.hosts.values())
@@ -499,6 +614,29 @@ def test_what_holds_is_kept_by_the_run() -> None:
     for bound, least in (("membership", 30), ("scanning", 15), ("takeover", 3)):
         assert counts[bound, "not checked"] >= least and counts[bound, "no"] >= 3 and not counts[bound, "yes"]
     assert not counts["latency", "yes"] and not counts["contention", "yes"] and counts["latency", "not known"] and counts["contention", "not known"]
+
+
+@pytest.mark.usefixtures("decides")
+def test_what_the_program_says_of_nodes_is_kept_by_the_run() -> None:
+    counts: Counter[tuple[str, str]] = Counter()
+    scans = 0
+    for seed in range(100):
+        network = any_network(random.Random(f"nodes {seed}"))
+        ran, known = Ran(network, seed), bounds._Known(network)
+        for frame, ones in known.joining("joined"):
+            counts.update(("joined", one.reason) for one in ones)
+            if not ones[0].reason:
+                ran.members_stay(frame + 5, {one.node for one in ones})
+        for frame, ones in known.joining("scanning"):
+            counts.update(("scanning", one.reason) for one in ones)
+            if not ones[0].reason:
+                scans += ran.members_scan_few(frame + 5, {one.node for one in ones})
+        rows = bounds.of(network)
+        assert {row.holds for row in rows if row.bound in ("membership", "scanning")} <= {"yes", "no"}
+    # Each is said to hold of many nodes, and not of others for each reason.
+    for bound in ("joined", "scanning"):
+        assert counts[bound, ""] >= 200 and min(counts[bound, reason] for reason in ("power", "loss", "ratio", "reach")) >= 3, counts
+    assert scans >= 20
 
 
 def relay_goes_off() -> Scenario:

@@ -154,10 +154,13 @@ def test_bounds_in_words_also_those_that_are_not_known_yet() -> None:
     lines = {
         "holds first 7 0 5 5": "Host has its first round from 20 s on, 5 frames after it boots at 0 s: whatever is lost.",
         "holds failover 9 6 27 21": "Pump hosts from 108 s on, 21 frames after the last host before it goes off at 24 s: whatever is lost.",
-        "open failover 7 power": "Host: its takeover has no bound, since a host is switched in a way that the bound does not allow.",
+        "open failover 7 power": "Host: its takeover has no bound, since a host or the node is switched in a way that the bound does not allow.",
         "open first 8 3 rounds 12": "node 8: its first round has no bound, since the run ends before.",
-        "holds joined 7 9 0 12 12": "Host: the bound “joined” holds (9 0 12 12), whatever is lost.",
-        "open scanning 7 9 losses 4": "Host: the bound “scanning” is open, since a premise is not met.",
-        "holds constructor 7": "Host: the bound “constructor” holds, whatever is lost.",
+        "holds joined 9 0 6 6": "Pump is a member from 24 s on, 6 frames after the host boots at 0 s, as long as nothing is lost.",
+        "holds scanning 9 0 6 4": "Pump scans from 24 s on for at most 4 frames for each round with losses, up to three of them in a row.",
+        "open joined 9 0 ratio 21": "Pump: its membership has no bound, since a link may lose something in the first round.",
+        "holds latency 9 0 1 12": "Pump: the bound “latency” holds (0 1 12).",
+        "open parted 7 9 losses 4": "Host: the bound “parted” is open, since a premise is not met.",
+        "holds constructor 7": "Host: the bound “constructor” holds.",
     }  # fmt: skip
     assert calls([("bounds", "boundText", [told, line]) for line in lines]) == list(lines.values())

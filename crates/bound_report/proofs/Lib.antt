@@ -1,1 +1,2 @@
 mod WorkedReports
+mod WorkedJoins

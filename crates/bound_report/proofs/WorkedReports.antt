@@ -1,5 +1,5 @@
 -- Worked texts: each bound holds of one, and is open in one for each reason, by the line that breaks it.
-use Rattle.std.proofs.Common.{◌≡◌, ℕ, List, [], ◌∷◌, true, Ok, refl, codes}
+use Rattle.std.proofs.Common.{◌≡◌, ℕ, List, [], ◌∷◌, ◌++◌, true, Ok, refl, codes}
 use Rattle.std.specs.Str.{bytes_eq}
 unfoldable use Rattle.std.specs.Str.{chars, is_utf8}
 unfoldable use Rattle.std.specs.Fmt.{digits}
@@ -51,7 +51,8 @@ fails_said : scenario_of fails_text ≡ Ok fails
 unfolding draft_after_line scenario_after_words scenario_line script_line step_line put_line network_line is_utf8 chars encode
 fails_said = refl
 
-both_hold : bytes_eq (bounds_text fails_text fails) (codes "holds first 1 0 5 5\nopen failover 1 power\nholds failover 2 6 27 21\n") ≡ true
+both_hold : bytes_eq (bounds_text fails_text fails [])
+    (codes "holds first 1 0 5 5\nopen failover 1 power\nholds failover 2 6 27 21\nopen joined 2 0 power 10\nopen scanning 2 0 power 10\n") ≡ true
 unfolding digits
 both_hold = refl
 
@@ -67,8 +68,10 @@ restarts_said : scenario_of restarts_text ≡ Ok restarts
 unfolding draft_after_line scenario_after_words scenario_line script_line step_line put_line network_line is_utf8 chars encode
 restarts_said = refl
 
-each_boot : bytes_eq (bounds_text restarts_text restarts)
-    (codes "open first 1 0 power 10\nholds first 1 7 12 5\nopen first 1 16 rounds\nopen failover 1 power\n") ≡ true
+each_boot : bytes_eq (bounds_text restarts_text restarts [])
+    (codes "open first 1 0 power 10\nholds first 1 7 12 5\nopen first 1 16 rounds\nopen failover 1 power\n"
+    ++ codes "open joined 2 0 power 10\nopen scanning 2 0 power 10\nopen joined 2 7 power 12\nopen scanning 2 7 power 12\n"
+    ++ codes "open joined 2 16 power\nopen scanning 2 16 power\n") ≡ true
 unfolding digits
 each_boot = refl
 
@@ -83,7 +86,8 @@ never_said : scenario_of never_text ≡ Ok never_on
 unfolding draft_after_line scenario_after_words scenario_line script_line step_line put_line network_line is_utf8 chars encode
 never_said = refl
 
-no_boot : bytes_eq (bounds_text never_text never_on) (codes "open first 1 boots\nopen failover 1 power\nopen failover 2 4 rounds\n") ≡ true
+no_boot : bytes_eq (bounds_text never_text never_on [])
+    (codes "open first 1 boots\nopen failover 1 power\nopen failover 2 4 rounds\nopen joined 2 boots\nopen scanning 2 boots\n") ≡ true
 unfolding digits
 no_boot = refl
 
@@ -98,8 +102,9 @@ back_said : scenario_of back_text ≡ Ok comes_back
 unfolding draft_after_line scenario_after_words scenario_line script_line step_line put_line network_line is_utf8 chars encode
 back_said = refl
 
-too_early : bytes_eq (bounds_text back_text comes_back)
-    (codes "holds first 1 0 5 5\nholds first 1 20 25 5\nopen failover 1 power\nopen failover 2 6 power 11\n") ≡ true
+too_early : bytes_eq (bounds_text back_text comes_back [])
+    (codes "holds first 1 0 5 5\nholds first 1 20 25 5\nopen failover 1 power\nopen failover 2 6 power 11\n"
+    ++ codes "open joined 2 0 power 10\nopen scanning 2 0 power 10\nopen joined 2 20 power 9\nopen scanning 2 20 power 9\n") ≡ true
 unfolding digits
 too_early = refl
 
@@ -114,7 +119,7 @@ both_said : scenario_of both_text ≡ Ok both_fail
 unfolding draft_after_line scenario_after_words scenario_line script_line step_line put_line network_line is_utf8 chars encode
 both_said = refl
 
-by_own_lines : bytes_eq (bounds_text both_text both_fail)
-    (codes "holds first 1 0 5 5\nopen failover 1 10 power 10\nopen failover 2 6 power 11\n") ≡ true
+by_own_lines : bytes_eq (bounds_text both_text both_fail [])
+    (codes "holds first 1 0 5 5\nopen failover 1 10 power 10\nopen failover 2 6 power 11\nopen joined 2 0 power 10\nopen scanning 2 0 power 10\n") ≡ true
 unfolding digits
 by_own_lines = refl

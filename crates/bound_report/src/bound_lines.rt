@@ -11,7 +11,7 @@ use lwb_base::Memory;
 use std::alloc::{AllocError, Global};
 use text_writers::{end_line, write_number};
 
-/// Writes a line for each finding: `holds NAME HOST FRAME FROM FRAMES`, or `open NAME HOST [FRAME] REASON [LINE]`. LINE is the number of the
+/// Writes a line for each finding: `holds NAME NODE FRAME FROM FRAMES`, or `open NAME NODE [FRAME] REASON [LINE]`. LINE is the number of the
 /// first line of the text that says what breaks the premise. The text has fewer than 2^31 bytes.
 pub fn write_findings(
     alloc: Global,
@@ -48,7 +48,7 @@ fn write_whom(text: &mut String, finding: &Finding) -> Result<(), AllocError>
     ensures { OnOk result (string_bytes text.new ≡ string_bytes text.old ++ whom finding.now) }
 {
     write_word(text, bound_word(finding.bound))?;
-    write_number(text, u32::from(finding.host.number()))?;
+    write_number(text, u32::from(finding.node.number()))?;
     write_option(text, finding.frame)
 }
 
@@ -98,6 +98,8 @@ fn bound_word(bound: Bound) -> &'static str
     match bound {
         Bound::First => "first",
         Bound::Failover => "failover",
+        Bound::Joined => "joined",
+        Bound::Scanning => "scanning",
     }
 }
 
@@ -108,6 +110,9 @@ fn reason_word(reason: Reason) -> &'static str
         Reason::Power => "power",
         Reason::Boots => "boots",
         Reason::Rounds => "rounds",
+        Reason::Loss => "loss",
+        Reason::Ratio => "ratio",
+        Reason::Reach => "reach",
     }
 }
 

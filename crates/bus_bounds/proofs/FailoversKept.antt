@@ -7,6 +7,7 @@ use Rattle.scenario_text.specs.OverLines.{IsOverScenario}
 use Rattle.scenario_text.specs.ScenarioParts.{ScenarioParts}
 use Rattle.scenario_text.proofs.SoundOver.{over_sound}
 use Rattle.bus_rules.specs.Cores.{own_rank}
+use Rattle.drawn_links.specs.declared.ratio_line.RatioLine.{RatioLine}
 use Rattle.bus_terms.specs.Flooding.{has}
 use Rattle.law_times.specs.Failovers.{HostsWithin, IsLastHost, failover_bound}
 use Rattle.bus_bounds.specs.BoundFindings.{against_verdict, alone_verdict, failover_finding, failover_verdict, frame_of, is_other, last_off}
@@ -28,7 +29,7 @@ module _ (d : ScenarioParts) (is : IsOverScenario d) (host : ℕ) (there : has d
   most = failover_bound (length d.hosts)
 
   abbrev counted : Option PowerLine → Finding
-  counted o = record { bound = Failover; host = host; frame = frame_of o; verdict = failover_verdict ls d.hosts d.frames host o }
+  counted o = record { bound = Failover; node = host; frame = frame_of o; verdict = failover_verdict ls d.hosts d.frames host o }
 
   abbrev turns : ℕ → PowerLine → Bool
   turns b l = turns_against d.hosts host l && is_within b (b + most) l
@@ -123,16 +124,17 @@ module _ (d : ScenarioParts) (is : IsOverScenario d) (host : ℕ) (there : has d
       })
       (λ none after. tt)
 
-  stands_open : (l : PowerLine) → ((rank : ℕ) → IsLastHost d rank host l.frame (l.frame + most) → ⊥) → (o : Option PowerLine)
-      → IsOpenBy d (counted (Some l)) (against_verdict o)
-  stands_open l fails None = fails
-  stands_open l fails (Some m) = fails
+  stands_open : (ratios : List RatioLine) (l : PowerLine) → ((rank : ℕ) → IsLastHost d rank host l.frame (l.frame + most) → ⊥) → (o : Option PowerLine)
+      → IsOpenBy d ratios (counted (Some l)) (against_verdict o)
+  stands_open ratios l fails None = fails
+  stands_open ratios l fails (Some m) = fails
 
-  alone_open : (l : PowerLine) (q : Option ℕ) → find (stands_against ls host l.frame) d.hosts ≡ q
-      → IsOpenBy d (counted (Some l)) (alone_verdict ls d.hosts d.frames host l.frame most q)
-  alone_open l (Some v) found = stands_open l (against l.frame v found) (last_line ls v (l.frame + 1))
-  alone_open l None nobody =
-      by_verdict (IsOpenBy d (counted (Some l))) d.frames (find (turns l.frame) ls) l.frame most (λ m broken. turned l.frame m broken) (λ none before. tt)
+  alone_open : (ratios : List RatioLine) (l : PowerLine) (q : Option ℕ) → find (stands_against ls host l.frame) d.hosts ≡ q
+      → IsOpenBy d ratios (counted (Some l)) (alone_verdict ls d.hosts d.frames host l.frame most q)
+  alone_open ratios l (Some v) found = stands_open ratios l (against l.frame v found) (last_line ls v (l.frame + 1))
+  alone_open ratios l None nobody =
+      by_verdict (IsOpenBy d ratios (counted (Some l))) d.frames (find (turns l.frame) ls) l.frame most
+      (λ m broken. turned l.frame m broken) (λ none before. tt)
       (λ none after. after)
 
   -- by whether another host goes off
@@ -140,14 +142,14 @@ module _ (d : ScenarioParts) (is : IsOverScenario d) (host : ℕ) (there : has d
   off_kept within None = tt
   off_kept within (Some l) = alone_kept within l (find (stands_against ls host l.frame) d.hosts) refl
 
-  off_open : (o : Option PowerLine) → last_off ls d.hosts host ≡ o → IsOpen d (counted o)
-  off_open None none =
+  off_open : (ratios : List RatioLine) (o : Option PowerLine) → last_off ls d.hosts host ≡ o → IsOpen d ratios (counted o)
+  off_open ratios None none =
       let goes : PowerLine → Bool = λ l. is_other d.hosts host l.node && not l.on in
       sym (any_reversed goes ls) ∙ none_found goes (reverse ls) none
-  off_open (Some l) some = alone_open l (find (stands_against ls host l.frame) d.hosts) refl
+  off_open ratios (Some l) some = alone_open ratios l (find (stands_against ls host l.frame) d.hosts) refl
 
   pub one_failover_kept : HostsWithin (length d.hosts) most → IsKept d (failover_finding ls d.hosts d.frames host)
   one_failover_kept within = off_kept within (last_off ls d.hosts host)
 
-  pub one_failover_open : IsOpen d (failover_finding ls d.hosts d.frames host)
-  one_failover_open = off_open (last_off ls d.hosts host) refl
+  pub one_failover_open : (ratios : List RatioLine) → IsOpen d ratios (failover_finding ls d.hosts d.frames host)
+  one_failover_open ratios = off_open ratios (last_off ls d.hosts host) refl

@@ -10,6 +10,7 @@ use Rattle.scenario_text.specs.ScenarioParts.{ScenarioParts}
 use Rattle.scenario_text.proofs.SoundOver.{over_own_lines}
 use Rattle.bus_rules.specs.Cores.{own_rank}
 use Rattle.bus_terms.specs.Flooding.{has}
+use Rattle.drawn_links.specs.declared.ratio_line.RatioLine.{RatioLine}
 use Rattle.drawn_bus.specs.DrawnScenarios.{drawn_scenario}
 use Rattle.law_times.specs.Failovers.{HostsWithin, failover_bound}
 use Rattle.law_times.specs.FirstRounds.{FirstRoundsCome}
@@ -45,17 +46,17 @@ module _ (d : ScenarioParts) (is : IsOverScenario d) where
       (All-map (IsKept d) (failover_finding ls d.hosts d.frames) d.hosts
       (each_host (λ h. IsKept d (failover_finding ls d.hosts d.frames h)) d.hosts (λ h there. one_failover_kept d is h there within)))
 
-  open_in : All (IsOpen d) (findings_of d)
-  open_in =
-      All-append (IsOpen d) (flat_map (first_findings ls d.frames) (take 1 d.hosts)) (map (failover_finding ls d.hosts d.frames) d.hosts)
-      (of_first (IsOpen d) (λ host own. firsts_open d is host) d.hosts refl)
-      (All-map (IsOpen d) (failover_finding ls d.hosts d.frames) d.hosts
-      (each_host (λ h. IsOpen d (failover_finding ls d.hosts d.frames h)) d.hosts (λ h there. one_failover_open d is h there)))
+  open_in : (ratios : List RatioLine) → All (IsOpen d ratios) (findings_of d)
+  open_in ratios =
+      All-append (IsOpen d ratios) (flat_map (first_findings ls d.frames) (take 1 d.hosts)) (map (failover_finding ls d.hosts d.frames) d.hosts)
+      (of_first (IsOpen d ratios) (λ host own. firsts_open d is host ratios) d.hosts refl)
+      (All-map (IsOpen d ratios) (failover_finding ls d.hosts d.frames) d.hosts
+      (each_host (λ h. IsOpen d ratios (failover_finding ls d.hosts d.frames h)) d.hosts (λ h there. one_failover_open d is h there ratios)))
 
 -- a drawn scenario has the same text but for its losses
 pub all_kept : (s : ScenarioParts) → IsScenario s → FirstRoundsCome QUIET_FRAMES → HostsWithin (length s.hosts) (failover_bound (length s.hosts))
     → AreKept s (findings_of s)
 all_kept s said come within ratios seed = kept_in (drawn_scenario s ratios seed) (s.trace, said) come within
 
-pub all_open : (s : ScenarioParts) → IsScenario s → All (IsOpen s) (findings_of s)
-all_open s said = open_in s (over_own_lines s said)
+pub all_open : (s : ScenarioParts) → IsScenario s → (ratios : List RatioLine) → All (IsOpen s ratios) (findings_of s)
+all_open s said ratios = open_in s (over_own_lines s said) ratios

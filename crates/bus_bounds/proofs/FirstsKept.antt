@@ -12,11 +12,13 @@ use Rattle.scenario_text.specs.ScenarioParts.{ScenarioParts}
 use Rattle.scenario_text.specs.declared.script.ScriptLine.{ScriptLine}
 use Rattle.scenario_text.proofs.SoundOver.{over_sound}
 use Rattle.bus_rules.specs.Cores.{own_rank}
+use Rattle.drawn_links.specs.declared.ratio_line.RatioLine.{RatioLine}
 use Rattle.law_times.specs.FirstRounds.{FirstRoundsCome}
 use Rattle.law_times.specs.ScriptedPower.{BootsIn, power_after_line, power_before, power_in}
 use Rattle.bus_bounds.specs.BoundFindings.{first_finding, first_findings, first_off, never_boots, verdict_of}
 use Rattle.bus_bounds.specs.KeptBounds.{IsKept, IsKeptBy, IsOpen, IsOpenBy}
 use Rattle.bus_bounds.specs.PowerLines.{boots_in, is_within, power_lines}
+use Rattle.bus_bounds.specs.declared.breaking_line.BreakingLine.TheVariants.{Switch}
 use Rattle.bus_bounds.specs.declared.finding.Finding.{Finding}
 use Rattle.bus_bounds.specs.declared.finding.Reason.TheVariants.{Power, Rounds}
 use Rattle.bus_bounds.specs.declared.finding.Verdict.{Verdict}
@@ -26,7 +28,7 @@ use Rattle.bus_bounds.proofs.PowerSaid.{boots_back, boots_is, has_off}
 use Rattle.bus_bounds.proofs.Searches.{each_kept, each_or_one, none_found, none_in_range, none_mapped, found_passes, passes_somewhere}
 
 -- a bound is broken by a line, holds, or ends after the run
-pub by_verdict : (P : Verdict → Type 0) (run : ℕ) (o : Option PowerLine) (b n : ℕ) → ((l : PowerLine) → o ≡ Some l → P (Broken Power l))
+pub by_verdict : (P : Verdict → Type 0) (run : ℕ) (o : Option PowerLine) (b n : ℕ) → ((l : PowerLine) → o ≡ Some l → P (Broken Power (Switch l)))
     → (o ≡ None → b + n < run → P (Holds (b + n) n)) → (o ≡ None → run ≤ b + n → P (Open Rounds)) → P (verdict_of run o b n)
 by_verdict P run (Some l) b n broken holds ends = broken l refl
 by_verdict P run None b n broken holds ends =
@@ -53,9 +55,9 @@ module _ (d : ScenarioParts) (is : IsOverScenario d) (host : ℕ) where
       }))
       (λ none after. tt)
 
-  one_open : (b : ℕ) → boots_in ls host b ≡ true → IsOpen d (found b)
-  one_open b boots =
-      by_verdict (IsOpenBy d (found b)) d.frames (first_off ls host b (b + QUIET_FRAMES)) b QUIET_FRAMES
+  one_open : (ratios : List RatioLine) (b : ℕ) → boots_in ls host b ≡ true → IsOpen d ratios (found b)
+  one_open ratios b boots =
+      by_verdict (IsOpenBy d ratios (found b)) d.frames (first_off ls host b (b + QUIET_FRAMES)) b QUIET_FRAMES
       (λ l broken begins. false≢true (sym begins.stays ∙ has_off d b (b + QUIET_FRAMES) host
       ∙ passes_somewhere (goes_off b) (goes_off b) ls l broken (found_passes (goes_off b) ls l broken)))
       (λ none before. tt)
@@ -71,7 +73,7 @@ module _ (d : ScenarioParts) (is : IsOverScenario d) (host : ℕ) where
       (ne_eqb x.frame b (λ same. omega (arith, early, past, same))) in
       rw other (no_lines b xs all.1 past)
 
-  none_past : (b : ℕ) → d.frames ≤ b → BootsIn d b host → ⊥
+  pub none_past : (b : ℕ) → d.frames ≤ b → BootsIn d b host → ⊥
   unfolding power_before
   none_past b past boots =
       let none = no_lines b d.script (recursion_from_All (IsScriptLine d) d.script (over_sound d is).script) past in
@@ -80,8 +82,8 @@ module _ (d : ScenarioParts) (is : IsOverScenario d) (host : ℕ) where
       let more = boots.boots in
       omega (arith, same, more)
 
-  never : map found (filter (boots_in ls host) (range_with_len 0 d.frames)) ≡ [] → IsOpen d (never_boots host)
-  never none b boots =
+  never : map found (filter (boots_in ls host) (range_with_len 0 d.frames)) ≡ [] → (ratios : List RatioLine) → IsOpen d ratios (never_boots host)
+  never none ratios b boots =
       let nobody = none_mapped found (filter (boots_in ls host) (range_with_len 0 d.frames)) none in
       elim (cases_lt b d.frames) [
         | inl within ↦ boots_back d (over_sound d is).script_ascends b host
@@ -94,7 +96,7 @@ module _ (d : ScenarioParts) (is : IsOverScenario d) (host : ℕ) where
       each_or_one (IsKept d) (never_boots host) (map found (filter (boots_in ls host) (range_with_len 0 d.frames))) (λ none. tt)
       (each_kept (IsKept d) (boots_in ls host) found (range_with_len 0 d.frames) (one_kept come own))
 
-  pub firsts_open : All (IsOpen d) (first_findings ls d.frames host)
-  firsts_open =
-      each_or_one (IsOpen d) (never_boots host) (map found (filter (boots_in ls host) (range_with_len 0 d.frames))) never
-      (each_kept (IsOpen d) (boots_in ls host) found (range_with_len 0 d.frames) one_open)
+  pub firsts_open : (ratios : List RatioLine) → All (IsOpen d ratios) (first_findings ls d.frames host)
+  firsts_open ratios =
+      each_or_one (IsOpen d ratios) (never_boots host) (map found (filter (boots_in ls host) (range_with_len 0 d.frames))) (λ none. never none ratios)
+      (each_kept (IsOpen d ratios) (boots_in ls host) found (range_with_len 0 d.frames) (one_open ratios))

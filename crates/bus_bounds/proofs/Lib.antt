@@ -4,3 +4,10 @@ mod Searches
 mod FirstsKept
 mod FailoversKept
 mod FindingsKept
+mod QuietFrames
+mod WalksAlong
+mod JoinVerdicts
+mod JoinedNodes
+mod JoinsKept
+mod JoinPieces
+mod ReachSteps

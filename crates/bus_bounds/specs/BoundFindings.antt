@@ -7,6 +7,7 @@ use Rattle.scenario_text.specs.ScenarioParts.{ScenarioParts}
 use Rattle.bus_terms.specs.Flooding.{has}
 use Rattle.law_times.specs.Failovers.{failover_bound}
 use Rattle.bus_bounds.specs.PowerLines.{boots_in, is_on_before, is_within, last_line, power_lines}
+use Rattle.bus_bounds.specs.declared.breaking_line.BreakingLine.TheVariants.{Switch}
 use Rattle.bus_bounds.specs.declared.finding.Bound.TheVariants.{First, Failover}
 use Rattle.bus_bounds.specs.declared.finding.Finding.{Finding}
 use Rattle.bus_bounds.specs.declared.finding.Reason.TheVariants.{Boots, Power, Rounds}
@@ -16,7 +17,7 @@ use Rattle.bus_bounds.specs.declared.power_line.PowerLine.{PowerLine}
 
 -- a bound of this number of frames, counted from this frame: open by a line that breaks it, or where the run ends by then
 abbrev pub verdict_of : ℕ → Option PowerLine → ℕ → ℕ → Verdict
-verdict_of run (Some l) frame frames = Broken Power l
+verdict_of run (Some l) frame frames = Broken Power (Switch l)
 verdict_of run None frame frames = if nat_lt (frame + frames) run then Holds (frame + frames) frames else Open Rounds
 
 -- the first line by which v goes off in a frame after b, up to frame e
@@ -27,13 +28,13 @@ first_off ls v b e = find (λ l. (l.node == v) && not l.on && is_within b e l) l
 abbrev pub first_finding : List PowerLine → ℕ → ℕ → ℕ → Finding
 first_finding ls run host b = record {
   bound = First;
-  host = host;
+  node = host;
   frame = Some b;
   verdict = verdict_of run (first_off ls host b (b + QUIET_FRAMES)) b QUIET_FRAMES;
 }
 
 abbrev pub never_boots : ℕ → Finding
-never_boots host = record { bound = First; host = host; frame = None; verdict = Open Boots }
+never_boots host = record { bound = First; node = host; frame = None; verdict = Open Boots }
 
 -- these, or that there are none
 abbrev pub or_one : {A : Type 0} → A → List A → List A
@@ -63,7 +64,7 @@ turns_against hosts host l = if l.node == host then not l.on else has hosts l.no
 -- of a host that stands against it, by its last line, if it has one
 abbrev pub against_verdict : Option PowerLine → Verdict
 against_verdict None = Open Power
-against_verdict (Some l) = Broken Power l
+against_verdict (Some l) = Broken Power (Switch l)
 
 -- whether a host alone is on from frame b to frame e: the line by which a host stands against it in b, or else the first that turns it
 abbrev pub alone_verdict : List PowerLine → List ℕ → ℕ → ℕ → ℕ → ℕ → Option ℕ → Verdict
@@ -83,7 +84,7 @@ frame_of (Some l) = Some l.frame
 abbrev pub failover_finding : List PowerLine → List ℕ → ℕ → ℕ → Finding
 failover_finding ls hosts run host = record {
   bound = Failover;
-  host = host;
+  node = host;
   frame = frame_of (last_off ls hosts host);
   verdict = failover_verdict ls hosts run host (last_off ls hosts host);
 }

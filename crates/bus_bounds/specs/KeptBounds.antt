@@ -13,9 +13,10 @@ use Rattle.law_times.specs.FirstRounds.{Begins}
 use Rattle.law_times.specs.ScriptedPower.{BootsIn}
 use Rattle.law_times.specs.Tunes.{HasTune, Hosts}
 use Rattle.bus_bounds.specs.BoundFindings.{is_other}
+use Rattle.bus_bounds.specs.KeptJoins.{IsMemberFrom, JoinFails, ScansFew}
 use Rattle.bus_bounds.specs.PowerLines.{power_lines}
 use Rattle.bus_bounds.specs.declared.finding.Bound.{Bound}
-use Rattle.bus_bounds.specs.declared.finding.Bound.TheVariants.{First, Failover}
+use Rattle.bus_bounds.specs.declared.finding.Bound.TheVariants.{First, Failover, Joined, Scanning}
 use Rattle.bus_bounds.specs.declared.finding.Finding.{Finding}
 use Rattle.bus_bounds.specs.declared.finding.Reason.{Reason}
 use Rattle.bus_bounds.specs.declared.finding.Reason.TheVariants.{Boots, Power, Rounds}
@@ -28,13 +29,15 @@ pub record HostsItsRank (d : ScenarioParts) (f host : ℕ) : Type 0 where
   pub own : own_rank host d.hosts ≡ Some rank
   pub hosts : Hosts d rank f host
 
--- the host of rank 0 has its first round in this frame, and any other host hosts its rank in it
+-- the host of rank 0 has its first round in this frame, any other host hosts its rank in it, and other nodes are members from it on
 abbrev pub Keeps : ScenarioParts → Bound → ℕ → ℕ → Type 0
 Keeps d First host f = HasTune d f host (Host 0 f)
 Keeps d Failover host f = HostsItsRank d f host
+Keeps d Joined v f = IsMemberFrom d f v
+Keeps d Scanning v f = ScansFew d f v
 
 abbrev pub IsKeptBy : ScenarioParts → Finding → Verdict → Type 0
-IsKeptBy d x (Holds from frames) = Keeps d x.bound x.host from
+IsKeptBy d x (Holds from frames) = Keeps d x.bound x.node from
 IsKeptBy d x (Broken reason line) = ⊤
 IsKeptBy d x (Open reason) = ⊤
 
@@ -45,6 +48,10 @@ IsKept d x = IsKeptBy d x x.verdict
 -- and so it is on the bus with the losses of each seed, by whatever ratios
 abbrev pub AreKept : ScenarioParts → List Finding → Type 0
 AreKept s xs = (ratios : List RatioLine) (seed : ℕ) → All (IsKept (drawn_scenario s ratios seed)) xs
+
+-- so it is on the bus with the losses of each seed, by these ratios
+abbrev pub AreKeptBy : ScenarioParts → List RatioLine → List Finding → Type 0
+AreKeptBy s ratios xs = (seed : ℕ) → All (IsKept (drawn_scenario s ratios seed)) xs
 
 -- the premise of a bound that an open finding names does fail
 abbrev pub FirstFails : ScenarioParts → ℕ → Option ℕ → Reason → Type 0
@@ -60,15 +67,18 @@ FailoverFails s host (Some b) Power = (rank : ℕ) → IsLastHost s rank host b 
 FailoverFails s host (Some b) Rounds = s.frames ≤ b + failover_bound (length s.hosts)
 FailoverFails s host other reason = ⊥
 
-abbrev pub Fails : ScenarioParts → Bound → ℕ → Option ℕ → Reason → Type 0
-Fails s First = FirstFails s
-Fails s Failover = FailoverFails s
+-- by ratios, on which the power of hosts does not depend
+abbrev pub Fails : ScenarioParts → List RatioLine → Bound → ℕ → Option ℕ → Reason → Type 0
+Fails s ratios First host = FirstFails s host
+Fails s ratios Failover host = FailoverFails s host
+Fails s ratios Joined v = JoinFails s ratios v
+Fails s ratios Scanning v = JoinFails s ratios v
 
-abbrev pub IsOpenBy : ScenarioParts → Finding → Verdict → Type 0
-IsOpenBy s x (Holds from frames) = ⊤
-IsOpenBy s x (Broken reason line) = Fails s x.bound x.host x.frame reason
-IsOpenBy s x (Open reason) = Fails s x.bound x.host x.frame reason
+abbrev pub IsOpenBy : ScenarioParts → List RatioLine → Finding → Verdict → Type 0
+IsOpenBy s ratios x (Holds from frames) = ⊤
+IsOpenBy s ratios x (Broken reason line) = Fails s ratios x.bound x.node x.frame reason
+IsOpenBy s ratios x (Open reason) = Fails s ratios x.bound x.node x.frame reason
 
 -- of an open finding the premise that it names fails
-abbrev pub IsOpen : ScenarioParts → Finding → Type 0
-IsOpen s x = IsOpenBy s x x.verdict
+abbrev pub IsOpen : ScenarioParts → List RatioLine → Finding → Type 0
+IsOpen s ratios x = IsOpenBy s ratios x x.verdict

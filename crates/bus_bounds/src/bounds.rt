@@ -1,6 +1,7 @@
 //! What is found of a scenario.
 
-ghost use Rattle.std.specs.Prelude.{◌≡◌, All, IfOk, flat_map, length, take};
+ghost use Rattle.std.specs.Prelude.{◌≡◌, List, All, IfOk, flat_map, length, take};
+ghost use Rattle.drawn_links.specs.declared.ratio_line.RatioLine.{RatioLine};
 ghost use Rattle.law_times.specs.Failovers.{failover_bound};
 ghost use Rattle.lwb_base.specs.declared.limits.TheConstants.{QUIET_FRAMES};
 ghost use Rattle.bus_bounds.specs.BoundFindings.{findings_of, first_findings as first_findings_of};
@@ -23,7 +24,7 @@ use std::alloc::Global;
 pub fn findings(alloc: Global, scenario: &Scenario) -> Result<Vec<Finding>, Memory>
     ensures found { IfOk result (λ found. found.items ≡ findings_of scenario.now) }
     ensures kept { IfOk result (λ found. AreKept scenario.now found.items) }
-    ensures unmet { IfOk result (λ found. All (IsOpen scenario.now) found.items) }
+    ensures unmet { IfOk result (λ found. (ratios : List RatioLine) → All (IsOpen scenario.now ratios) found.items) }
 {
     let quiet = u32::from(first_round_frames());
     let most = failover_frames(scenario.hosts().len() as u8);

@@ -4,7 +4,7 @@ ghost use Rattle.std.specs.Prelude.{◌≡◌, ◌+◌, ◌++◌, ◌∷◌, [],
 ghost use Rattle.std.specs.Option.{option_copied};
 ghost use Rattle.bus_terms.specs.Flooding.{has};
 ghost use Rattle.law_times.specs.Failovers.{failover_bound};
-ghost use Rattle.bus_bounds.specs.BoundFindings.{against_verdict as against_verdict_of, alone_verdict as alone_verdict_of, frame_of as frame_of_line};
+ghost use Rattle.bus_bounds.specs.BoundFindings.{alone_verdict as alone_verdict_of, frame_of as frame_of_line};
 ghost use Rattle.bus_bounds.specs.BoundFindings.{failover_finding as failover_finding_of};
 ghost use Rattle.bus_bounds.specs.BoundFindings.{failover_verdict as failover_verdict_of, is_other as is_other_of, last_off as last_off_of};
 ghost use Rattle.bus_bounds.specs.BoundFindings.{stands_against as stands_against_of, turns_against as turns_against_of};
@@ -13,7 +13,7 @@ ghost use Rattle.bus_bounds.specs.PowerLines.{is_within as is_within_of};
 use crate::finding::{Bound, Finding, Reason, Verdict};
 use crate::power_line::PowerLine;
 use crate::power_lines::{is_on_before, is_within, last_line};
-use crate::verdict::{broken_by, verdict};
+use crate::verdict::{against_verdict, verdict};
 use lwb_base::{Memory, NodeId};
 
 /// What is found of each host, counted from the last frame in which another host goes off. `most` are the frames of the bound.
@@ -47,7 +47,7 @@ fn push_failover(
     let off = last_off(lines, hosts, host);
     found.push(Finding {
         bound: Bound::Failover,
-        host,
+        node: host,
         frame: frame_of(off),
         verdict: failover_verdict(lines, hosts, run, most, host, off),
     })?;
@@ -99,18 +99,6 @@ fn alone_verdict(
             let turn = first_turn(lines, hosts, host, frame, frames);
             verdict(run, turn, frame, frames)
         }
-    }
-}
-
-// Of a host that stands against it, by its last line, where it has one.
-fn against_verdict(line: Option<&PowerLine>) -> Verdict
-    ensures { result ≡ against_verdict_of (option_copied line.entry) }
-{
-    match line {
-        Some(line) => broken_by(line),
-        None => Verdict::Open {
-            reason: Reason::Power,
-        },
     }
 }
 

@@ -2,14 +2,13 @@
 
 ghost use Rattle.std.specs.Prelude.{◌≡◌, ◌+◌, ◌++◌, ◌∷◌, [], IfOk, OnOk, if◌then◌else◌, filter, map};
 ghost use Rattle.std.specs.List.{range_with_len};
-ghost use Rattle.std.specs.Option.{option_copied};
 ghost use Rattle.lwb_base.specs.declared.limits.TheConstants.{QUIET_FRAMES};
-ghost use Rattle.bus_bounds.specs.BoundFindings.{first_finding as first_finding_of, first_findings as first_findings_of, first_off as first_off_of};
+ghost use Rattle.bus_bounds.specs.BoundFindings.{first_finding as first_finding_of, first_findings as first_findings_of};
 ghost use Rattle.bus_bounds.specs.PowerLines.{boots_in as boots_in_of};
 
 use crate::finding::{Bound, Finding, Reason, Verdict};
 use crate::power_line::PowerLine;
-use crate::power_lines::{boots_in, is_within};
+use crate::power_lines::{boots_in, first_off};
 use crate::verdict::verdict;
 use lwb_base::{Memory, NodeId};
 use std::alloc::Global;
@@ -29,7 +28,7 @@ pub(crate) fn first_findings(
     if found.is_empty() {
         found.push(Finding {
             bound: Bound::First,
-            host,
+            node: host,
             frame: None,
             verdict: Verdict::Open {
                 reason: Reason::Boots,
@@ -72,19 +71,10 @@ fn push_boot(
     if boots_in(lines, host, frame) {
         found.push(Finding {
             bound: Bound::First,
-            host,
+            node: host,
             frame: Some(frame),
             verdict: verdict(run, first_off(lines, host, frame, quiet), frame, quiet),
         })?;
     }
     Ok(())
-}
-
-// The first line by which the node goes off within this number of frames after the first.
-fn first_off(lines: &[PowerLine], node: NodeId, first: u32, frames: u32) -> Option<&PowerLine>
-    ensures { option_copied result ≡ first_off_of lines.now node first (first + frames) }
-{
-    lines
-        .iter()
-        .find(|l| l.node == node && !l.on && is_within(first, frames, l))
 }

@@ -4,14 +4,21 @@
 //! so on the bus with the losses of every seed.
 #![tactic(auto)]
 
+mod boot;
 mod bounds;
+mod breaking_line;
 mod failovers;
 mod finding;
 mod first_rounds;
+mod joining;
 mod power_line;
 mod power_lines;
+mod ratios_in_force;
+mod reach;
 mod verdict;
 
 pub use bounds::findings;
+pub use breaking_line::BreakingLine;
 pub use finding::{Bound, Finding, Reason, Verdict};
+pub use joining::joins;
 pub use power_line::PowerLine;

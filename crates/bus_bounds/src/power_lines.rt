@@ -1,7 +1,9 @@
 //! The lines of a script that are for power, and what they say.
 
-ghost use Rattle.std.specs.Prelude.{◌≡◌, ◌+◌, ◌++◌, ◌==◌, not, ◌&&◌, IfOk, OnOk, option_to_list};
+ghost use Rattle.std.specs.Prelude.{◌≡◌, ◌+◌, ◌++◌, ◌==◌, not, ◌&&◌, ◌-◌, ◌≤◌, IfOk, OnOk, option_to_list};
+ghost use Rattle.std.specs.List.{list_any, range_with_len};
 ghost use Rattle.std.specs.Option.{option_copied};
+ghost use Rattle.bus_bounds.specs.BoundFindings.{first_off as first_off_of};
 ghost use Rattle.bus_bounds.specs.PowerLines.{boots_in as boots_in_of, goes_off_in as goes_off_in_of, is_on_before as is_on_before_of};
 ghost use Rattle.bus_bounds.specs.PowerLines.{last_line as last_line_of, power_line as power_line_of, power_lines as power_lines_of, is_within as is_within_of};
 
@@ -91,4 +93,26 @@ pub(crate) fn is_within(first: u32, frames: u32, line: &PowerLine) -> bool
     ensures { result ≡ is_within_of first (first + frames) line.now }
 {
     first < line.frame && u64::from(line.frame) <= u64::from(first) + u64::from(frames)
+}
+
+/// The first line by which the node goes off within this number of frames after the first.
+pub(crate) fn first_off(
+    lines: &[PowerLine],
+    node: NodeId,
+    first: u32,
+    frames: u32,
+) -> Option<&PowerLine>
+    ensures { option_copied result ≡ first_off_of lines.now node first (first + frames) }
+{
+    lines
+        .iter()
+        .find(|l| l.node == node && !l.on && is_within(first, frames, l))
+}
+
+/// Whether the node boots in one of these frames, the first to the one before the last.
+pub(crate) fn boots_within(lines: &[PowerLine], node: NodeId, first: u32, last: u32) -> bool
+    requires { first ≤ last }
+    ensures { result ≡ list_any (boots_in_of lines.now node) (range_with_len first (last - first)) }
+{
+    (first..last).any(|f| boots_in(lines, node, f))
 }

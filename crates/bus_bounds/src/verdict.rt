@@ -2,10 +2,12 @@
 
 ghost use Rattle.std.specs.Prelude.{◌≡◌};
 ghost use Rattle.std.specs.Option.{option_copied};
-ghost use Rattle.bus_bounds.specs.BoundFindings.{verdict_of};
+ghost use Rattle.bus_bounds.specs.BoundFindings.{against_verdict as against_verdict_of, verdict_of};
+ghost use Rattle.bus_bounds.specs.declared.breaking_line.BreakingLine.TheVariants.{Switch};
 ghost use Rattle.bus_bounds.specs.declared.finding.Reason.TheVariants.{Power};
 ghost use Rattle.bus_bounds.specs.declared.finding.Verdict.TheVariants.{Broken};
 
+use crate::breaking_line::BreakingLine;
 use crate::finding::{Reason, Verdict};
 use crate::power_line::PowerLine;
 
@@ -29,10 +31,22 @@ pub(crate) fn verdict(run: u32, broken: Option<&PowerLine>, frame: u32, frames: 
 
 /// Its premise on power is broken by the line.
 pub(crate) fn broken_by(line: &PowerLine) -> Verdict
-    ensures { result ≡ Broken Power line.now }
+    ensures { result ≡ Broken Power (Switch line.now) }
 {
     Verdict::Broken {
         reason: Reason::Power,
-        line: *line,
+        line: BreakingLine::Switch(*line),
+    }
+}
+
+/// Of a node that is not as it has to be, by its last line, where it has one.
+pub(crate) fn against_verdict(line: Option<&PowerLine>) -> Verdict
+    ensures { result ≡ against_verdict_of (option_copied line.entry) }
+{
+    match line {
+        Some(line) => broken_by(line),
+        None => Verdict::Open {
+            reason: Reason::Power,
+        },
     }
 }

@@ -1,10 +1,11 @@
 """How long things take at most in a network: the bounds of docs/BOUNDS.md, each with whether what it needs holds of the scenario.
 
 The numbers are proved of the programs, by the functions of the crate `law_times` that the column `proof` names. Whether their
-premises hold of a scenario is decided by the program's command `bounds` for first rounds and failovers, which is proved, for every
-seed. Of the others it is worked out here, from script, links, losses and ratios, what is in the way. That is tested, not proved, so
-where nothing is found they are not checked. A premise on what a run comes to, as that the host has accepted a stream, can't be told
-from the script, and then the answer is that it is not known. `planning` has all answers in one place.
+premises hold of a scenario is decided by the program's command `bounds` for first rounds, failovers, memberships and scanning, which
+is proved, for every seed; an older program writes nothing of the last two. Of all else it is worked out here, from script, links,
+losses and ratios, what is in the way. That is tested, not proved, so where nothing is found they are not checked. A premise on what
+a run comes to, as that the host has accepted a stream, can't be told from the script, and then the answer is that it is not known.
+`planning` has all answers in one place.
 """
 
 from __future__ import annotations
@@ -92,7 +93,8 @@ def bounds(network: Scenario | Report, by: str = "network") -> pd.DataFrame:
             the function of the crate `law_times` that proves it, of any scenario of which the premises hold
 
         With `by` = "stream" there is a row for each `source` and `stream` that asks for slots, with its `interval` in seconds, and each
-        number of `packets`. First rounds and failovers alone are ever "yes".
+        number of `packets`. First rounds, memberships, scanning and failovers alone are ever "yes". Of memberships and scanning that is so
+        after the first round of that boot, for as long as `premise` says.
 
     Raises
     ------
@@ -180,25 +182,28 @@ class _Boot:
 
 @dataclass(frozen=True)
 class _Decided:
-    """A line of the program's `bounds`, of a host: counted from that frame on, None where there is none. `reason` is the premise that
-    fails, empty where the bound holds, and `event` the word, frame and node of the line that breaks it, where one does."""
+    """A line of the program's `bounds`, of a node: counted from that frame on, None where there is none. `reason` is the premise that
+    fails, empty where the bound holds, and `event` the word of the line that breaks it, where one does, and its first three numbers."""
 
     bound: str
-    host: int
+    node: int
     frame: int | None
     reason: str = ""
-    event: tuple[str, int, int] | None = None
+    event: tuple[str, int, int, int] | None = None
 
     @classmethod
     def read(cls, written: str, text: list[str]) -> _Decided:
         """That of a line of the report of a text with these lines."""
-        word, bound, host, *rest = written.split()
+        word, bound, node, *rest = written.split()
         reason = next((place for place, one in enumerate(rest) if not one.isdigit()), len(rest))
         frame = int(rest[0]) if reason else None
         if word == "holds":
-            return cls(bound, int(host), frame)
-        broken = [text[int(number) - 1].split() for number in rest[reason + 1 :]]
-        return cls(bound, int(host), frame, rest[reason], (broken[0][0], int(broken[0][1]), int(broken[0][2])) if broken else None)
+            return cls(bound, int(node), frame)
+        event = None
+        for number in rest[reason + 1 :]:
+            name, *numbers = text[int(number) - 1].split()
+            event = (name, int(numbers[0]), int(numbers[1]), int(numbers[2]) if len(numbers) > 2 else 0)
+        return cls(bound, int(node), frame, rest[reason], event)
 
 
 class _Known:
@@ -227,11 +232,48 @@ class _Known:
         """What breaks a bound of so many frames."""
         if one.reason == "rounds":
             return (f"the run ends before {self.when((one.frame or 0) + frames)}",)
-        if one.event is not None and one.event[0] == "on" and one.event[2] != one.host:
+        if one.event is not None and one.event[0] == "on" and one.event[2] != one.node:
             return (f"another host is switched on in {self.when(one.event[1])}",)
         if one.event is not None:
             return (f"{self.named([one.event[2]])} is switched off in {self.when(one.event[1])}",)
-        return (f"{self.named([one.host])} is on in no frame",) if one.reason else ()
+        return (f"{self.named([one.node])} is on in no frame",) if one.reason else ()
+
+    def joining(self, bound: str) -> Iterator[tuple[int | None, list[_Decided]]]:
+        """What the program decides of each bound of that name on a node, by the boot of the host that it is counted from, None where
+        there is none: what is open first, and each with its nodes in order."""
+        ones = [one for one in self.decided if one.bound == bound]
+        for frame in dict.fromkeys(one.frame for one in ones):
+            of_boot = [one for one in ones if one.frame == frame]
+            for group in ([one for one in of_boot if one.reason], [one for one in of_boot if not one.reason]):
+                if group:
+                    yield frame, group
+
+    def kept_out(self, ones: list[_Decided]) -> tuple[str, ...]:
+        """What breaks bounds on nodes after one boot of the host, each once with its nodes."""
+        nodes: dict[str, set[int]] = {}
+        for one in ones:
+            nodes.setdefault(self._broken_of(one), set()).add(one.node)
+        return tuple(says.format(nodes=self.named(of), are=_are(of), have=_have(of)) for says, of in nodes.items() if says)
+
+    def _broken_of(self, one: _Decided) -> str:
+        """What breaks a bound on a node, with fields for the nodes of which the same is said."""
+        begun = one.frame or 0
+        first = begun + QUIET_FRAMES
+        if one.reason == "power":
+            if one.event is not None and one.event[0] == "off" and one.event[1] > begun:
+                return _plain(f"{self.named([one.event[2]])} is switched off in {self.when(one.event[1])}")
+            if one.event is not None and one.event[0] == "on":
+                return f"{{nodes}} {{are}} on from before, and not switched on from {self.when(begun)} to {self.when(first)}"
+            return f"{{nodes}} {{have}} no power from then to {self.when(first)} on"
+        link = f", from node {self.scenario.name(one.event[2])} to node {self.scenario.name(one.event[3])}" if one.event else ""
+        return {
+            "": "",
+            "boots": _plain(f"{self.named([self.host or 0])} is on in no frame"),
+            "rounds": f"the run ends before {self.when(first + 1)}",
+            "loss": f"packets may be lost in {self.when(first)}, by a line `{one.event[0] if one.event else 'lose'}`",
+            "ratio": _plain(f"packets may be lost in {self.when(first)}, by a ratio{link}"),
+            "reach": "{nodes} {are} out of reach of the host",
+        }[one.reason]
 
     @cached_property
     def steady(self) -> set[int]:
@@ -305,19 +347,39 @@ def _first_rounds(known: _Known) -> Iterator[Bound]:
         yield Bound("first round", known.named([known.host]), QUIET_FRAMES, needs, "first_round_frames", (_REJECTED,))
     for one in (one for one in known.decided if one.bound == "first"):
         wrong = known.broken(one, QUIET_FRAMES)
-        yield Bound("first round", known.named([one.host]), QUIET_FRAMES, needs, "first_round_frames", wrong, one.frame, decided=True)
+        yield Bound("first round", known.named([one.node]), QUIET_FRAMES, needs, "first_round_frames", wrong, one.frame, decided=True)
 
 
 def _membership(known: _Known) -> Iterator[Bound]:
-    """When all nodes are members, and for how long."""
+    """When nodes are members, and for how long."""
     if known.start is None:
+        return
+    if any(one.bound == "joined" for one in known.decided):
+        yield from _members_decided(known)
         return
     begun = known.start.on
     first = begun + QUIET_FRAMES
     ends = min((frame for frame in (known.first_loss(first), _first_leave(known, first)) if frame is not None), default=None)
-    until = "to the end of the run" if ends is None else f"up to {known.when(ends)}"
-    needs = f"nothing is lost and nobody is switched off, which holds {until}: so long all stay members"
+    needs = f"nothing is lost and nobody is switched off, which holds {_until(known, ends)}: so long all stay members"
     yield Bound("membership", "all nodes", QUIET_FRAMES + 1, needs, "members_stay", tuple(_in_the_way_of_members(known)), begun)
+
+
+def _members_decided(known: _Known) -> Iterator[Bound]:
+    """When nodes are members, and for how long, by the program."""
+    for begun, ones in known.joining("joined"):
+        first = (begun or 0) + QUIET_FRAMES
+        ends = min((frame for frame in (known.first_loss(first), _first_leave(known, first)) if frame is not None), default=None)
+        needs = f"nothing is lost and nobody is switched off, which holds {_until(known, ends)}: so long they stay members"
+        yield Bound("membership", _of(known, ones), QUIET_FRAMES + 1, needs, "members_stay", known.kept_out(ones), begun, decided=True)
+
+
+def _of(known: _Known, ones: list[_Decided]) -> str:
+    """The nodes of lines, in words."""
+    return "all nodes" if len(ones) == len(known.scenario.nodes) - 1 else known.named(one.node for one in ones)
+
+
+def _until(known: _Known, ends: int | None) -> str:
+    return "to the end of the run" if ends is None else f"up to {known.when(ends)}"
 
 
 def _in_the_way_of_members(known: _Known) -> Iterator[str]:
@@ -346,6 +408,11 @@ def _no_host(known: _Known) -> str:
     return "no node hosts" if known.host is None else f"{known.named([known.host])}, the host of rank 0, is never switched on"
 
 
+def _plain(says: str) -> str:
+    """The words as they are, where fields are filled in: names of nodes may have braces."""
+    return says.replace("{", "{{").replace("}", "}}")
+
+
 def _have(nodes: set[int]) -> str:
     return "has" if len(nodes) == 1 else "have"
 
@@ -356,21 +423,44 @@ def _are(nodes: set[int]) -> str:
 
 def _scanning(known: _Known) -> Iterator[Bound]:
     """What a round with losses costs a member."""
+    if known.start is not None and any(one.bound == "scanning" for one in known.decided):
+        yield from _scanning_decided(known)
+        return
     # A node is no member before its host has had a round.
     begun = known.start.on + QUIET_FRAMES if known.start else 0
-    frames = (begun + np.flatnonzero(known.lossy[begun:])).tolist()
-    ends, row = [], 1
-    for earlier, later in zip(frames, frames[1:]):
-        row = row + 1 if later - earlier <= GREATEST_GAP else 1
-        if row > LOSSY_ROUNDS:
-            ends.append(later)
+    ends = _lossy_row(known, begun)
     wrong = list(_in_the_way_of_members(known))
     if (leaves := _first_leave(known, begun)) is not None:
         wrong.append(f"{known.named({boot.node for boot in known.boots if boot.off == leaves})} is switched off in {known.when(leaves)}")
-    if ends:
-        wrong.append(f"more than three rounds in a row may lose packets, as up to {known.when(ends[0])}")
+    if ends is not None:
+        wrong.append(f"more than three rounds in a row may lose packets, as up to {known.when(ends)}")
     needs = "all are members after the first round and stay on, and no more than three rounds with losses follow one another"
     yield Bound("scanning", "a member, for each round with losses", GREATEST_GAP, needs, "lossy_round_frames", tuple(wrong))
+
+
+def _scanning_decided(known: _Known) -> Iterator[Bound]:
+    """What a round with losses costs nodes that are members, by the program."""
+    for begun, ones in known.joining("scanning"):
+        first = (begun or 0) + QUIET_FRAMES
+        ends = min((frame for frame in (_lossy_row(known, first + 1), _first_leave(known, first)) if frame is not None), default=None)
+        needs = (
+            f"from {known.when(first + 1)} on nobody is switched off, and no more than three rounds with losses follow one another, "
+            f"which holds {_until(known, ends)}"
+        )
+        of = "a member" if (nodes := _of(known, ones)) == "all nodes" else nodes
+        of += ", for each round with losses"
+        yield Bound("scanning", of, GREATEST_GAP, needs, "lossy_round_frames", known.kept_out(ones), decided=True)
+
+
+def _lossy_row(known: _Known, begun: int) -> int | None:
+    """The first frame from this one on with which more than three rounds in a row may lose packets."""
+    frames = (begun + np.flatnonzero(known.lossy[begun:])).tolist()
+    row = 1
+    for earlier, later in zip(frames, frames[1:]):
+        row = row + 1 if later - earlier <= GREATEST_GAP else 1
+        if row > LOSSY_ROUNDS:
+            return int(later)
+    return None
 
 
 # When a host fails.
@@ -390,7 +480,7 @@ def _failover(known: _Known) -> Iterator[Bound]:
     ]  # fmt: skip
     for one in alone:
         wrong = known.broken(one, frames)
-        yield Bound("failover", known.named([one.host]), frames, needs, "failover_frames", wrong, one.frame, decided=True)
+        yield Bound("failover", known.named([one.node]), frames, needs, "failover_frames", wrong, one.frame, decided=True)
     if not alone:
         none = "no line leaves one host alone: it is what a failure of the others would take"
         told = (none if known.decided else _REJECTED,)

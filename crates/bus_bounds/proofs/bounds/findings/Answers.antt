@@ -31,4 +31,4 @@ returns-clause-kept c =
 pub returns-clause-unmet : goal.returns-clause-unmet
 returns-clause-unmet c =
     let s = c.args.scenario.now in
-    subst (λ (found : List Finding). All (IsOpen s) found) (sym c.in_ok-found.ensures) (all_open s c.hosts.ensures.said)
+    λ ratios. subst (λ (found : List Finding). All (IsOpen s ratios) found) (sym c.in_ok-found.ensures) (all_open s c.hosts.ensures.said ratios)
