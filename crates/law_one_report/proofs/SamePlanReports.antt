@@ -66,9 +66,9 @@ module _ (b text other : List ℕ) where
       x.spelled ∙ ap canonical (one_with_losses is.0 x.drawn y.drawn (kept_losses is.0 is.1 seed) text other x.said y.said x.losses y.losses)
       ∙ sym y.spelled
 
-  pub one_bounds : OfNetwork b (λ s ratios. IsBoundsText b s text) → OfNetwork b (λ s ratios. IsBoundsText b s other) → text ≡ other
+  pub one_bounds : OfNetwork b (λ s ratios. IsBoundsText b s ratios text) → OfNetwork b (λ s ratios. IsBoundsText b s ratios other) → text ≡ other
   one_bounds is also =
-      one_told (λ s ratios. bounds_text b s) (is.0, is.1, is.2, is.3.spelled) (also.0, also.1, also.2, also.3.spelled)
+      one_told (λ s ratios. bounds_text b s ratios) (is.0, is.1, is.2, is.3.spelled) (also.0, also.1, also.2, also.3.spelled)
 
   -- what is told of a run of its drawn scenario, which keeps time as the scenario does that some text says
   pub one_drawn_run : RunLaws → ((s : ScenarioParts) → IsScenario s → (v : ℕ) → knows s.nodes v ≡ true → IsClock (scenario_clock s v))
