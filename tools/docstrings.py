@@ -25,9 +25,7 @@ from numpydoc.validate import validate
 
 PACKAGE = "foldcairn"
 # The public modules whose docstrings do not have numpydoc's form in all places yet.
-LATER = frozenset(
-    f"foldcairn.{name}" for name in ("plan", "plot", "propagation")
-)
+LATER = frozenset({"foldcairn.plan"})
 # The checks of numpydoc that hold here. Left out are those of a manual's pages (an example, a "See Also", an extended summary), of where the
 # quotes are (GL01, GL02), of a summary's verb (SS05), and of how the text of "Returns" begins and ends (RT04, RT05), where columns are listed.
 CHECKS = {

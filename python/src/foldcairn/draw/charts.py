@@ -29,13 +29,31 @@ _FAR = 20.0
 def delivery(
     pairs: pd.DataFrame, *, column: str = "ratio_of_put", title: str | None = None, axes: Axes | None = None
 ) -> Figure:
-    """Which stream arrives where: a row for each stream and a column for each node, by the ratios (0 to 1) of a table of
-    `planning.delivery_ratio(log, "pair")`. Cells of a stream at its own node, and of what there is none of, are empty. Next to a
-    stream is how many packets it put: the ratio of four packets says little.
+    """Which stream arrives where: a row for each stream and a column for each node.
 
-    `column` is one of its ratios: "ratio_of_put", "ratio_of_sent" or "ratio_of_sent_while_on". The numbers are percents.
-    With `axes` it is drawn there, without the scale of its colours, as a part of their figure. Raises `ValueError` where the table
-    has not these columns, or no rows.
+    The numbers are percents. Cells of a stream at its own node, and of what there is none of, are empty. Next to a stream is how many packets it
+    put: the ratio of four packets says little.
+
+    Parameters
+    ----------
+    pairs : pandas.DataFrame
+        A table of `planning.delivery_ratio(log, "pair")`.
+    column : str
+        One of its ratios (0 to 1): "ratio_of_put", "ratio_of_sent" or "ratio_of_sent_while_on".
+    title : str, optional
+        The title, in place of one that says what the ratio is of.
+    axes : matplotlib.axes.Axes, optional
+        Where it is drawn, without the scale of its colours, as a part of their figure.
+
+    Returns
+    -------
+    matplotlib.figure.Figure
+        The picture, or the figure of `axes`.
+
+    Raises
+    ------
+    ValueError
+        Where the table has not these columns, or no rows.
     """
     _require(pairs, "source", "stream", "node", column)
     table = pairs.pivot(index=["source", "stream"], columns="node", values=column)
@@ -107,12 +125,32 @@ def percent(ratio: float) -> str:
 def latency(
     deliveries: pd.DataFrame, *, deadline_seconds: float | None = None, title: str | None = None, axes: Axes | None = None
 ) -> Figure:  # fmt: skip
-    """How the latencies of each stream are distributed, in seconds, of a table of `planning.latencies(log)`: a box from the
-    first quartile to the third with a line at the median, and whiskers from the least to the greatest. Where the greatest is more than
-    20 times the least the axis is logarithmic, and says so. A line marks the deadline, if one is given. The latencies of a report without a
-    log are by plan, and the axis says so too.
+    """How the latencies of each stream are distributed, in seconds.
 
-    With `axes` it is drawn there, as a part of their figure. Raises `ValueError` where the table has not its columns, or no rows.
+    There is a box from the first quartile to the third with a line at the median, and whiskers from the least to the greatest. Where the greatest
+    is more than 20 times the least the axis is logarithmic, and says so. The latencies of a report without a log are by plan, and the axis says
+    so too.
+
+    Parameters
+    ----------
+    deliveries : pandas.DataFrame
+        A table of `planning.latencies(log)`.
+    deadline_seconds : float, optional
+        A deadline in seconds from put to delivery, which a line marks.
+    title : str, optional
+        The title, in place of one that says what the boxes are.
+    axes : matplotlib.axes.Axes, optional
+        Where it is drawn, as a part of their figure.
+
+    Returns
+    -------
+    matplotlib.figure.Figure
+        The picture, or the figure of `axes`.
+
+    Raises
+    ------
+    ValueError
+        Where the table has not its columns, or no rows.
     """
     by_plan = "planned_latency_seconds" in deliveries
     column = "planned_latency_seconds" if by_plan else "latency_seconds"
@@ -155,10 +193,28 @@ def _scale(drawn: Axes, least: float, greatest: float) -> bool:
 
 
 def energy(times: pd.DataFrame, *, title: str | None = None, axes: tuple[Axes, Axes] | None = None) -> Figure:
-    """What the radio time of each node goes to, in seconds, of a table of `planning.radio_time(log)`: on the left all of it, on
-    the right that in rounds, without searching for a host, which otherwise hides the rest.
+    """What the radio time of each node goes to, in seconds.
 
-    With two `axes` it is drawn there, without the key, as a part of their figure. Raises `ValueError` where the table has not its columns, or no rows.
+    On the left is all of it, on the right that in rounds, without searching for a host, which otherwise hides the rest.
+
+    Parameters
+    ----------
+    times : pandas.DataFrame
+        A table of `planning.radio_time(log)`.
+    title : str, optional
+        The title of the left part, in place of "Time with the radio on".
+    axes : tuple of matplotlib.axes.Axes, optional
+        The two, left and right, where it is drawn, without the key, as a part of their figure.
+
+    Returns
+    -------
+    matplotlib.figure.Figure
+        The picture, or the figure of `axes`.
+
+    Raises
+    ------
+    ValueError
+        Where the table has not its columns, or no rows.
     """
     _require(times.reset_index(), "node", *radio.PURPOSES)
     table = times
@@ -193,13 +249,30 @@ def _stack(drawn: Axes, table: pd.DataFrame, purposes: list[str]) -> None:
 
 
 def outages(streams: pd.DataFrame, *, title: str | None = None, axes: Axes | None = None) -> Figure:
-    """How long each stream was without deliveries where a host failed or another took over, in seconds from the start of the
-    run, of a table of `planning.outages(log, "stream")`: a bar for each change of hosts, from the last delivery before it to
-    the first after it, to the end of the run with an arrow where there is none. Lines show when the old host lost power and when the new one opened its
-    first round. Streams whose source had no power itself, or no packet, are apart, below the others.
+    """How long each stream was without deliveries where a host failed or another took over.
 
-    With `axes` it is drawn there, without the key, as a part of their figure. Raises `ValueError` where the table has not its
-    columns, or no rows: then the host never changed.
+    There is a bar for each change of hosts, in seconds from the start of the run: from the last delivery before it to the first after it, to the
+    end of the run with an arrow where there is none. Lines show when the old host lost power and when the new one opened its first round. Streams
+    whose source had no power itself, or no packet, are apart, below the others.
+
+    Parameters
+    ----------
+    streams : pandas.DataFrame
+        A table of `planning.outages(log, "stream")`.
+    title : str, optional
+        The title, in place of "Without deliveries at a change of hosts".
+    axes : matplotlib.axes.Axes, optional
+        Where it is drawn, without the key, as a part of their figure.
+
+    Returns
+    -------
+    matplotlib.figure.Figure
+        The picture, or the figure of `axes`.
+
+    Raises
+    ------
+    ValueError
+        Where the table has not its columns, or no rows: then the host never changed.
     """
     _require(streams, "source", "stream", "off_seconds", "first_round_seconds", "last_delivery_seconds", "first_delivery_seconds",
              "outage_seconds")  # fmt: skip

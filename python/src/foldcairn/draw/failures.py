@@ -31,9 +31,33 @@ _LETTERS_MOST = 46
 def failures(
     found: Failures, *, background: str | os.PathLike[str] | bytes | None = None, least_ratio: float | None = None, axes: Axes | None = None,
 ) -> Figure:  # fmt: skip
-    """The map of a plan whose nodes have the colours of what breaks where they fail; lines are links by their mean ratios at the start. Nodes are at
-    their places, floor above floor, or where the links put them. `background` is a picture of the floor plan, without it that of the plan where all
-    nodes are on one floor; `least_ratio` and `axes` are those of `topology`. Raises what that raises."""
+    """The map of a plan whose nodes have the colours of what breaks where they fail.
+
+    Lines are links by their mean ratios at the start. Nodes are at their places, floor above floor, or where the links put them.
+
+    Parameters
+    ----------
+    found : Failures
+        What `planning.failures` gives.
+    background : path or bytes, optional
+        The file of a picture of the floor plan, or its bytes. Without it that of the plan is drawn where all nodes are on one floor.
+    least_ratio : float, optional
+        Links below this ratio, 0 to 1, are left out, as in `topology`.
+    axes : matplotlib.axes.Axes, optional
+        Where the map is drawn, without the key, as a part of their figure.
+
+    Returns
+    -------
+    matplotlib.figure.Figure
+        The map, or the figure of `axes`.
+
+    Raises
+    ------
+    ValueError
+        Where `topology` raises it.
+    OSError
+        Where the file of the background can't be read.
+    """
     rows = {row["failed"]: row for row in found.nodes.to_dict("records")}
     colours = _by_what([row["requirements"] for row in rows.values() if row["breaks"]])
     paints = {name: _paint(rows.get(name), colours) for name, node in found.plan.nodes.items() if not node.candidate}
@@ -65,8 +89,33 @@ def _short(words: str) -> str:
 def relays(
     found: Relays, *, background: str | os.PathLike[str] | bytes | None = None, least_ratio: float | None = None, axes: Axes | None = None,
 ) -> Figure:  # fmt: skip
-    """The map of a plan with all candidates, which have the colours of what a relay there mends: all that is broken, a part of it, or nothing. The
-    other words are those of `failures`. Raises what `topology` raises."""
+    """The map of a plan with all candidates, which have the colours of what a relay there mends.
+
+    That is all that is broken, a part of it, or nothing. Lines and places are those of `failures`.
+
+    Parameters
+    ----------
+    found : Relays
+        What `planning.relays` gives.
+    background : path or bytes, optional
+        The file of a picture of the floor plan, or its bytes. Without it that of the plan is drawn where all nodes are on one floor.
+    least_ratio : float, optional
+        Links below this ratio, 0 to 1, are left out, as in `topology`.
+    axes : matplotlib.axes.Axes, optional
+        Where the map is drawn, without the key, as a part of their figure.
+
+    Returns
+    -------
+    matplotlib.figure.Figure
+        The map, or the figure of `axes`.
+
+    Raises
+    ------
+    ValueError
+        Where `topology` raises it.
+    OSError
+        Where the file of the background can't be read.
+    """
     rows = {row["candidate"]: row for row in found.places.to_dict("records")}
     plan = found.plan.with_relays(*found.plan.candidates)
     paints = {name: _mended(rows[name], found.broken) if name in rows else (_NOT_ASKED, "no candidate") for name in plan.nodes}

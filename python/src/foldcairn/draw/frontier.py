@@ -29,11 +29,30 @@ _WIDE = 0.1
 
 
 def search(found: Found, *, title: str | None = None, axes: Axes | None = None) -> Figure:
-    """The life of each setting that was run, in years, against its margin: by how much the worst share of packets is above what is wanted, in points
-    of percent. Right of the line at 0 all shares are as they are wanted. The signs say what became of each setting, and the first of the table has
-    its name. Bars are intervals of the shares that were verified.
+    """The life of each setting that was run, in years, against its margin.
 
-    With `axes` it is drawn there, as a part of their figure. Raises `ValueError` where no setting was run, or no requirement is one of packets.
+    The margin is by how much the worst share of packets is above what is wanted, in points of percent: right of the line at 0 all shares are as
+    they are wanted. The signs say what became of each setting, and the first of the table has its name. Bars are intervals of the shares that
+    were verified.
+
+    Parameters
+    ----------
+    found : Found
+        What `planning.search` gives.
+    title : str, optional
+        The title, in place of "Settings by battery life and margin".
+    axes : matplotlib.axes.Axes, optional
+        Where it is drawn, as a part of their figure.
+
+    Returns
+    -------
+    matplotlib.figure.Figure
+        The picture, or the figure of `axes`.
+
+    Raises
+    ------
+    ValueError
+        Where no setting was run, or no requirement is one of packets.
     """
     table = found.table.dropna(subset=["margin"])
     table = table[np.isfinite(table["life_years"])]

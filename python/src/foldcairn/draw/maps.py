@@ -47,9 +47,27 @@ _NEAREST = 0.5
 def hops(scenario: Scenario, *, failed: Iterable[Link] = (), at_seconds: float | None = None) -> dict[int, int]:
     """How many hops each node is from the host, by links that work: a packet of the host needs so many steps at least.
 
-    The host is the one of the lowest rank that has power. `failed` are links that do not work, besides those with a ratio of 0
-    and those of nodes without power at `at_seconds` (without it all nodes count as powered). Nodes that no packet of the host
-    reaches are left out.
+    The host is the one of the lowest rank that has power.
+
+    Parameters
+    ----------
+    scenario : Scenario
+        The network.
+    failed : iterable of tuple
+        Links (sender, receiver) that do not work, besides those with a ratio of 0 and those of nodes without power.
+    at_seconds : float, optional
+        When power and ratios are asked for, in seconds from the start of the run; without it all nodes count as powered, with the ratios of the
+        start.
+
+    Returns
+    -------
+    dict
+        By id the hops, 0 for the host. Nodes that no packet of the host reaches are left out.
+
+    Raises
+    ------
+    ScenarioError
+        Where the time is no finite number.
     """
     graph = scenario.graph()
     down = _without_power(scenario, at_seconds)
@@ -59,7 +77,18 @@ def hops(scenario: Scenario, *, failed: Iterable[Link] = (), at_seconds: float |
 
 
 def places(scenario: Scenario) -> dict[int, Place]:
-    """Places for the nodes by their links alone, for networks whose places are not known; the same links give the same places."""
+    """Places for the nodes by their links alone, for networks whose places are not known.
+
+    Parameters
+    ----------
+    scenario : Scenario
+        The network.
+
+    Returns
+    -------
+    dict
+        By id the place (x, y), upwards, in units of about the length of a link; the same links give the same places.
+    """
     graph = scenario.graph().to_undirected()
     laid: dict[int, Place] = {}
     right = 0.0
@@ -115,26 +144,51 @@ def topology(
     extent: tuple[float, float, float, float] | None = None, least_ratio: float | None = None, axes: Axes | None = None,
     paints: Mapping[int, Paint] | None = None,
 ) -> Figure:  # fmt: skip
-    """The nodes and links of a network: hosts are squares, a node's colour says how many hops it is from the host (`hops`), and
-    the colour of a link its reception ratio. The half of a line next to a node is the link to it; a link that is in one
-    direction alone is an arrow.
+    """The nodes and links of a network, as a map.
 
-    `positions` are places of the nodes in any unit, upwards; without them they are those of the scenario (`Scenario.places`), if each node
-    has one, else the map is laid out by the links. Nodes so near to each
-    other that one would hide the other are moved apart, by no more than that takes. `failed` are links
-    that are drawn as failed, besides those with a ratio of 0; with `at_seconds` (from the start of the run) also those of nodes
-    without power then, hops are counted from the host that has power, and ratios are those of that time.
+    Hosts are squares, a node's colour says how many hops it is from the host (`hops`), and the colour of a link its reception ratio. The half of a
+    line next to a node is the link to it; a link that is in one direction alone is an arrow. Nodes so near to each other that one would hide the
+    other are moved apart, by no more than that takes.
 
-    `background` is the file of a picture, or its bytes, as of a floor plan, that is drawn below the map, and `extent` says where it lies, as
-    (left, right, bottom, top) in the units of the positions; without it a picture element is one unit, and its lower left corner is
-    at (0, 0). With `axes` the map is drawn there, without the key, as a part of their figure.
+    Parameters
+    ----------
+    scenario : Scenario
+        The network.
+    positions : mapping, optional
+        By id the place (x, y) of each node in any unit, upwards. Without it they are those of the scenario (`Scenario.places`), if each node has one,
+        else the map is laid out by the links.
+    failed : iterable of tuple
+        Links (sender, receiver) that are drawn as failed, besides those with a ratio of 0.
+    at_seconds : float, optional
+        A time in seconds from the start of the run. Links of nodes without power then are drawn as failed too, hops are counted from the host that
+        has power, and ratios are those of that time.
+    title : str, optional
+        The title, in place of the numbers of nodes and links.
+    background : path or bytes, optional
+        The file of a picture, or its bytes, as of a floor plan, that is drawn below the map.
+    extent : tuple of float, optional
+        Where the background lies, as (left, right, bottom, top) in the units of the positions. Without it a picture element is one unit, and its
+        lower left corner is at (0, 0).
+    least_ratio : float, optional
+        Links below this ratio, 0 to 1, are left out, but for those that have failed and the best from and to each node, and the map says how many.
+        Without it all of 300 links are shown, and of more as few as one of the classes of ratios leaves.
+    axes : matplotlib.axes.Axes, optional
+        Where the map is drawn, without the key, as a part of their figure.
+    paints : mapping, optional
+        By id the colour of each node and what that means, in place of the hops.
 
-    Links below `least_ratio` (0 to 1) are left out, but for those that have failed and the best from and to each node, and the map says how
-    many. Without it all of 300 links are shown, and of more as few as one of the classes of ratios leaves. `paints` has the colour of each node
-    and what that means, in place of the hops.
+    Returns
+    -------
+    matplotlib.figure.Figure
+        The map, or the figure of `axes`.
 
-    Raises `ValueError` where the scenario has no nodes, a node has no place, a failed link is none of the scenario, or a
-    background is given without positions, and `OSError` where its file can't be read.
+    Raises
+    ------
+    ValueError
+        Where the scenario has no nodes, a node has no place, a failed link is none of the scenario, a background is given without positions,
+        `least_ratio` is not from 0 to 1, or the time is no finite number.
+    OSError
+        Where the file of the background can't be read.
     """
     if not scenario.nodes:
         raise ValueError("the scenario has no nodes")

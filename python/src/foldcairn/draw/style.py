@@ -106,10 +106,28 @@ def key(drawn: Axes, columns: int, below: float = 0.5, more: Sequence[Artist] = 
 
 
 def save(figure: Figure, path: str | os.PathLike[str]) -> Path:
-    """Writes a figure of `plot` into a file, and gives its path; the ending says of which kind: svg, png, pdf and others.
+    """Writes a figure of `plot` into a file; the ending says of which kind: svg, png, pdf and others.
 
-    The same figure gives the same bytes. An SVG file is light or dark as the page in which it is shown. Raises `ValueError`
-    for an ending that matplotlib does not know, and `OSError` where the file can't be written.
+    The same figure gives the same bytes. An SVG file is light or dark as the page in which it is shown.
+
+    Parameters
+    ----------
+    figure : matplotlib.figure.Figure
+        The figure.
+    path : path
+        The file, which is made or replaced.
+
+    Returns
+    -------
+    pathlib.Path
+        Its path.
+
+    Raises
+    ------
+    ValueError
+        Where matplotlib does not know the ending.
+    OSError
+        Where the file can't be written.
     """
     target = Path(path)
     kind = target.suffix.lstrip(".").lower()

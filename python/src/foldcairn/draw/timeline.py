@@ -36,18 +36,41 @@ def timeline(
     log: Log, *, start_seconds: float = 0.0, end_seconds: float | None = None, frame: int | None = None,
     nodes: Iterable[int | str] | None = None, title: str | None = None, note: str | None = None, axes: Axes | None = None,
 ) -> Figure:  # fmt: skip
-    """What each radio did in this time (the whole run by default), or in the round of a frame, a row for each node or each of
-    `nodes`.
+    """What each radio did in a window of the run, a row for each node.
 
-    In a window of more than 12 s each round is a tick by the colour of its rank's channel; dots are rounds in which the node
-    delivered packets, if there is room for them, and grey is time without power. In a shorter one there are the windows of
-    slots, with what the node received and transmitted in them; from about 60 ms down with the steps as numbers. Times are
-    seconds of true time from the start of the run, in windows below 2 s milliseconds after the window's start.
+    In a window of more than 12 s each round is a tick by the colour of its rank's channel; dots are rounds in which the node delivered packets, if
+    there is room for them, and grey is time without power. In a shorter one there are the windows of slots, with what the node received and
+    transmitted in them; from about 60 ms down with the steps as numbers. Times are seconds of true time from the start of the run, in windows
+    below 2 s milliseconds after the window's start.
 
-    `note` is a line below the title, after the seed by which the losses were drawn. With `axes` it is drawn there, without the key, as a part of their figure.
+    Parameters
+    ----------
+    log : results.Log
+        The run.
+    start_seconds : float
+        Where the window starts, in seconds from the start of the run, from 0 on.
+    end_seconds : float, optional
+        Where it ends, in such seconds; None: at the end of the run.
+    frame : int, optional
+        A frame whose round is shown, in place of the window that is given.
+    nodes : iterable of int or str, optional
+        The nodes that are shown, by ids or names; None: all.
+    title : str, optional
+        The title, in place of one that says the window.
+    note : str, optional
+        A line below the title, after the seed by which the losses were drawn.
+    axes : matplotlib.axes.Axes, optional
+        Where it is drawn, without the key, as a part of their figure.
 
-    Raises `ValueError` where the window has no length or lies outside of the run, a frame has no round, or a node is none of the
-    scenario.
+    Returns
+    -------
+    matplotlib.figure.Figure
+        The picture, or the figure of `axes`.
+
+    Raises
+    ------
+    ValueError
+        Where `log` is no log of a run, the window has no length or lies outside of the run, a frame has no round, or a node is none of the scenario.
     """
     if frame is not None:
         start_seconds, end_seconds = _of_round(log, frame)

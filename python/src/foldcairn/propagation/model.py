@@ -28,19 +28,37 @@ Pieces = list[tuple[float, float]]
 
 
 class LinkModel:
-    """The links between `names`, at `places` (a row of x and y in metres for each) on `floors` (whole numbers, all 0 where None).
+    """The links between named nodes: their mean ratios, and those that each seed draws.
 
-    `losses` says from what, and `rows` is the survey (`survey.Row`, or rows with the same fields). Floors are `height` metres apart. A
-    place that is not known is NaN.
+    Parameters
+    ----------
+    names : sequence of str or int
+        The names of the nodes, which differ.
+    places : array_like
+        A row of x and y in metres for each node; NaN where the place is not known.
+    floors : array_like or None
+        The floor of each node, a whole number; None: all 0.
+    losses : Losses
+        From what the ratios come.
+    rows : iterable of Row
+        The survey, as `Row` or as rows with the same fields.
+    height : float
+        How far floors are apart, in metres, above 0.
 
-    Fields
+    Attributes
+    ----------
+    fitted : fit.Fit or None
+        The exponent and deviation that were fitted to the survey; None where none were.
+    noise_dbm : float
+        The noise in dBm, as given, or where `losses.fit` is set as it fits ratios that were measured together with their RSSI.
+    unheard : int
+        How many pairs have no row in the survey although both nodes took part in it, and are taken for no link.
+
+    Raises
     ------
-    fitted : the exponent and deviation that were fitted to the survey (`fit.Fit`), or None where none were.
-    noise_dbm : the noise, as given, or where `losses.fit` is set as it fits ratios that were measured together with their RSSI.
-    unheard : how many pairs have no row in the survey although both nodes took part in it, and are taken for no link.
-
-    Raises `ArgumentError` where a name is there twice, a value is out of its range, a row names another node or what it says is not
-    known, or a number of the path loss is missing.
+    ArgumentError
+        Where a name is there twice, a value is out of its range, a row names another node or what it says is not known, or a number of the path
+        loss is missing.
     """
 
     fitted: fit.Fit | None
@@ -65,22 +83,56 @@ class LinkModel:
         self._pairs = self._modelled.pairs + list(measured.links)
 
     def mean(self) -> dict[Pair, float]:
-        """The mean ratio of each link from sender to receiver, that is at least `least`: over shadowing, and over what counts leave open. Of
-        a series it is the mean of its samples."""
+        """The mean ratio of each link: over shadowing, and over what counts leave open.
+
+        Returns
+        -------
+        dict
+            By (sender, receiver) the ratio, of the links for which that is at least `least`. Of a series it is the mean of its samples.
+        """
         modelled = self._modelled
         return self._kept(expected_ratio(modelled.snr_db, modelled.deviation_db, self.losses.bits), self._samples.means)
 
     def draw(self, seed: int) -> dict[Pair, float]:
-        """The ratios that a seed draws, of the links for which that is at least `least`. Of a series it is the mean of its samples.
+        """The ratios that a seed draws.
 
-        Raises `ArgumentError` where the seed is no whole number from 0 to 9,999,999,999,999.
+        Parameters
+        ----------
+        seed : int
+            The seed, 0 to 9,999,999,999,999.
+
+        Returns
+        -------
+        dict
+            By (sender, receiver) the ratio, of the links for which that is at least `least`. Of a series it is the mean of its samples.
+
+        Raises
+        ------
+        ArgumentError
+            Where the seed is no whole number from 0 to 9,999,999,999,999.
         """
         seed = _seed(seed)
         return self._kept(self._drawn(seed), self._samples.drawn(seed))
 
     def series(self, seed: int | None = None) -> dict[Pair, Pieces]:
-        """Of each link that was measured at several times the ratios from when on they hold, in seconds of the run: what a seed draws, or
-        means without one. The first holds from 0 s on. Links none of whose ratios is at least `least` are left out."""
+        """The ratios over time of each link that was measured at several times.
+
+        Parameters
+        ----------
+        seed : int, optional
+            The seed that draws them, 0 to 9,999,999,999,999; None: means.
+
+        Returns
+        -------
+        dict
+            By (sender, receiver) a list of pairs: from when on a ratio holds, in seconds of the run, and the ratio. The first holds from 0 s on. Links
+            none of whose ratios is at least `least` are left out.
+
+        Raises
+        ------
+        ArgumentError
+            Where the seed is no whole number from 0 to 9,999,999,999,999.
+        """
         ratios = self._samples.means if seed is None else self._samples.drawn(_seed(seed))
         found = {pair: self._samples.of(pair, ratios) for pair in self._series}
         return {
@@ -90,7 +142,23 @@ class LinkModel:
         }
 
     def left_out(self, seed: int | None = None) -> int:
-        """How many links are left out because their ratio is below `least`: of those that a seed draws, or of the means without one."""
+        """How many links are left out because their ratio is below `least`.
+
+        Parameters
+        ----------
+        seed : int, optional
+            The seed that draws the ratios, 0 to 9,999,999,999,999; None: by the means.
+
+        Returns
+        -------
+        int
+            The number of these links.
+
+        Raises
+        ------
+        ArgumentError
+            Where the seed is no whole number from 0 to 9,999,999,999,999.
+        """
         return len(self._pairs) - len(self.mean() if seed is None else self.draw(seed))
 
     def _drawn(self, seed: int) -> Numbers:

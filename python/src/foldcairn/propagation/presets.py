@@ -17,9 +17,20 @@ WALL_DB = 6.9
 
 @dataclass(frozen=True)
 class Preset:
-    """A kind of site: the exponent of distance, the deviation of shadowing in dB, and the loss through floors in dB.
+    """A kind of site: numbers of the path loss, with their source.
 
-    `first_floor_db` is the loss through one floor, and `floor_db` that through each further one.
+    Attributes
+    ----------
+    exponent : float
+        The exponent of distance.
+    deviation_db : float
+        The deviation of shadowing in dB.
+    first_floor_db : float
+        The loss through one floor in dB.
+    floor_db : float
+        The loss through each further floor in dB.
+    source : str
+        Where the numbers are from.
     """
 
     exponent: float

@@ -19,27 +19,51 @@ UNHEARD = ("none", "positions")
 
 @dataclass(frozen=True)
 class Losses:
-    """From what ratios are drawn, and the numbers of the path loss. An exponent or deviation that is given goes before a fitted one, and that
-    before the preset's; noise that is fitted goes before `noise_dbm`.
+    """From what ratios are drawn, and the numbers of the path loss.
 
-    Fields
+    An exponent or deviation that is given goes before a fitted one, and that before the preset's; noise that is fitted goes before `noise_dbm`.
+
+    Parameters
+    ----------
+    source : str
+        "survey" (what was measured), "positions" (the path loss), "both" (measured where it was, else by positions) or "none" (each link of the
+        survey passes everything). A plan file writes it as `from`.
+    preset : str, optional
+        A name of `PRESETS`.
+    exponent : float, optional
+        The exponent of distance, above 0 and up to 10.
+    reference_db : float
+        The loss over the first metre, 0 to 120 dB.
+    deviation_db : float, optional
+        The deviation of shadowing, 0 to 40 dB.
+    floor_db : float, optional
+        The loss through each floor, from 0 dB on; None: as of the preset.
+    wall_db : float, optional
+        The loss of walls without a number of their own, from 0 dB on; None: 6.9 dB.
+    transmit_dbm : float
+        The transmitted power, -60 to 30 dBm.
+    noise_dbm : float
+        The noise, -140 to 0 dBm.
+    correlation : float
+        That of the shadowing of both directions of a pair, 0 to 1.
+    bytes : int
+        The length of the packets, header and payload, 1 to 125; the longest has the lowest ratio.
+    least : float
+        Links with a lower ratio are left out, 0 to 1.
+    unknown : str
+        What becomes of links whose cells are blank: "error", "positions" (by the path loss), or "none" (no link). Never a ratio of 1.
+    unheard : str
+        With source "both", what becomes of a pair that has no row although its sender and its receiver are in others: "none" (nothing was received,
+        so no link), or "positions".
+    fit : bool
+        Whether a survey gives the noise, where it has ratios with their RSSI, and with source "both" the exponent and the deviation.
+    walls : iterable of Wall or sequence
+        The walls, as `walls.Wall` or lists of x0, y0, x1, y1 in metres, dB from 0 on, floor; without a floor a wall is on all.
+
+    Raises
     ------
-    source : "survey" (what was measured), "positions" (the path loss), "both" (measured where it was, else by positions) or "none" (each link
-        of the survey passes everything). A plan file writes it as `from`.
-    preset : a name of `PRESETS`, or None.
-    exponent : of distance, above 0 and up to 10; reference_db : the loss over the first metre, 0 to 120 dB.
-    deviation_db : of shadowing, 0 to 40 dB; correlation : of the shadowing of both directions of a pair, 0 to 1.
-    floor_db : the loss through each floor, from 0 dB on; wall_db : of walls without a number of their own, 6.9 where it is None.
-    transmit_dbm : -60 to 30 dBm; noise_dbm : -140 to 0 dBm.
-    bytes : the length of the packets, header and payload, 1 to 125; the longest has the lowest ratio.
-    least : links with a lower ratio are left out, 0 to 1.
-    unknown : what becomes of links whose cells are blank: "error", "positions" (by the path loss), or "none" (no link). Never a ratio of 1.
-    unheard : with source "both", what becomes of a pair that has no row although its sender and its receiver are in others: "none" (nothing was
-        received, so no link), or "positions".
-    fit : whether a survey gives the noise, where it has ratios with their RSSI, and with source "both" the exponent and the deviation.
-    walls : `Wall`s, or lists of x0, y0, x1, y1, dB, floor.
-
-    Raises `ArgumentError` where a value is out of its range.
+    ArgumentError
+        Where a value is out of its range.
     """
 
     source: str = "positions"
@@ -90,7 +114,18 @@ class Losses:
         return tuple(self.walls)  # type: ignore[arg-type]
 
     def floors(self) -> tuple[float, float]:
-        """The loss through a first floor and through each further one, in dB. Raises `ArgumentError` where neither is known."""
+        """The loss through floors.
+
+        Returns
+        -------
+        tuple of float
+            The loss through a first floor and through each further one, in dB.
+
+        Raises
+        ------
+        ArgumentError
+            Where neither `floor_db` nor a preset is given.
+        """
         if self.floor_db is not None:
             return self.floor_db, self.floor_db
         if self.kind is None:

@@ -30,11 +30,30 @@ _RSSI = (-150.0, 30.0)
 
 @dataclass(frozen=True)
 class Row:
-    """A row of a survey: what `receiver` received of `sender`.
+    """A row of a survey: what a node received of another.
 
-    `ratio` is 0 to 1, `sent` and `received` count packets, and `rssi` is in dBm. `at` is the time from when on the row holds: seconds of the
-    run, or a time stamp as 2026-01-31 14:05:00 or of `datetime`. With `both` the row holds for both directions. `where` is where the row
-    is from, for errors. A cell may be a text of a table; one that is blank, `n/a` or a dash is not known.
+    A cell may be a text of a table; one that is blank, `n/a` or a dash is not known. Cells are checked where they are read, by `LinkModel`.
+
+    Parameters
+    ----------
+    sender : str or int
+        The name of the node that sent.
+    receiver : str or int
+        The name of the node that received.
+    ratio : float or str, optional
+        The reception ratio, 0 to 1.
+    sent : int or str, optional
+        How many packets were sent, from 0 on.
+    received : int or str, optional
+        How many of them were received, 0 to `sent`, which has to be given too.
+    rssi : float or str, optional
+        The RSSI in dBm, -150 to 30.
+    at : float, str or datetime.datetime, optional
+        From when on the row holds: seconds of the run, or a time stamp as 2026-01-31 14:05:00 or of `datetime`.
+    both : bool
+        Whether the row holds for both directions.
+    where : str
+        Where the row is from, for errors.
     """
 
     sender: Node
