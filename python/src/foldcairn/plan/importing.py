@@ -26,10 +26,23 @@ _LEAST = 3
 
 
 def of_scenario(scenario: Scenario) -> Plan:
-    """The plan of a scenario, with its names, places, receivers, keep-alives and ratios. What a plan does not say is in its `remarks`: losses of
-    single steps, streams that are left or change their intervals, clocks that change, and payloads, of which it keeps the length.
+    """The plan of a scenario, with its names, places, receivers, keep-alives and ratios.
 
-    Raises `PlanError` where two nodes have one name, or a name is a word of plan files.
+    Parameters
+    ----------
+    scenario : Scenario
+        The scenario or the network; losses that were drawn count for nothing.
+
+    Returns
+    -------
+    Plan
+        The plan, read from no file. What a plan does not say is in its `remarks`: losses of single steps, streams that are left or change their
+        intervals, clocks that change, and payloads, of which it keeps the length.
+
+    Raises
+    ------
+    PlanError
+        Where two nodes have one name, a name is a word of plan files, or what comes out is no plan (`Plan.check`).
     """
     network = scenario.undrawn()
     names = {node: network.name(node) for node in network.nodes}
@@ -144,8 +157,37 @@ def of_tables(
     nodes: str | os.PathLike[str], links: Sequence[str | os.PathLike[str]] = (), streams: str | os.PathLike[str] | None = None, *,
     hosts: Iterable[str] = (), settings: dict[str, Any] | None = None, losses: dict[str, Any] | None = None,
 ) -> Plan:  # fmt: skip
-    """The plan of CSV files, as `[tables]` of a plan file reads them; a column `host` of the nodes has the ranks of hosts, where `hosts` names none.
-    `settings` and `losses` have keys of [plan] and [losses]. Raises what `Plan.read` raises."""
+    """The plan of CSV files, as `[tables]` of a plan file reads them.
+
+    Parameters
+    ----------
+    nodes : path
+        The table of nodes.
+    links : sequence of paths
+        The tables of links.
+    streams : path, optional
+        The table of streams.
+    hosts : sequence of str
+        The names of the hosts by rank, from 0 on; without any a column `host` of the nodes has the ranks.
+    settings : dict, optional
+        Values of keys of [plan].
+    losses : dict, optional
+        Values of keys of [losses].
+
+    Returns
+    -------
+    Plan
+        The plan, read from no plan file.
+
+    Raises
+    ------
+    PlanError
+        Where it is no plan, as of `Plan.read`.
+    ArgumentError
+        Where the table of nodes is no CSV file in UTF-8, or a rank of `host` is no whole number.
+    OSError
+        Where a file can't be read.
+    """
     document = tomlkit.document()
     document["plan"] = settings or {}
     ranks, ignored = _hosts(nodes) if not list(hosts) else ({}, [])

@@ -25,7 +25,29 @@ class Row:
 
 @dataclass
 class Settings:
-    """`[plan]`: what holds for the whole plan."""
+    """`[plan]`: what holds for the whole plan.
+
+    Parameters
+    ----------
+    name : str
+        The name of the plan, on one line.
+    site : str
+        The name of the site, on one line.
+    profile : int
+        It is 1 (frames of 4 s, payloads of 32 bytes) or 2 (frames of 5 s, payloads of 96 bytes, contention slots).
+    sends : int
+        How often a node transmits at most in one flood, 1 to 4.
+    contend : int
+        Contention slots of a round, 1 to 4, in profile 2; 0 for the one that a round has in any case.
+    hours : float
+        The length of a run in h, from one frame to 4,096 frames.
+    seeds : int
+        How many draws a verdict may use at most, 1 to 10,000.
+    vary_ids : bool
+        Whether each seed assigns the ids of nodes anew, which rule contention.
+    keep_alive : float, optional
+        Keep-alive in s, above 0, of each stream that is sporadic or whose period is longer; None for none.
+    """
 
     name: str = key("text", "the name of the plan", "")
     site: str = key("text", "the name of the site", "")
@@ -40,7 +62,39 @@ class Settings:
 
 @dataclass
 class Node(Row):
-    """`[[node]]`, or a row of the table of nodes."""
+    """`[[node]]`, or a row of the table of nodes.
+
+    Parameters
+    ----------
+    name : str
+        What people call it, without a semicolon, another one for each node and none of the words `all`, `hosts`, `battery`, `mains`, `drawn` and `others`.
+    id : int, optional
+        Its number in the network, 1 to 200; where it is None, `Plan.check` gives it in the natural order of names.
+    x : float, optional
+        Its place in m, given with `y`.
+    y : float, optional
+        Its place in m, upwards on the map, given with `x`.
+    floor : int
+        The floor that it is on, from the lowest, -20 to 200.
+    powered : str or float
+        What feeds it: "mains", a kind of battery ("battery", "2xAA", "1xAA" or "D"), or a capacity in mAh, above 0.
+    clock : int
+        How much its clock gains in ppm, -20 to 20.
+    offset : int
+        What its clock reads at the start, 0 to 256,000 ticks of 1/64 µs.
+    on : float
+        When it gets power first, in s, at least 0 and before the end of the run.
+    candidate : bool
+        Whether it is a place where a relay may be put, and no node of the network yet.
+    tags : list of str
+        Words by which requirements and tables name several nodes at once.
+    note : str
+        A note for people, on one line.
+    where : str
+        The place that it was read from, for messages, as "plan.toml, line 12, [[node]], row 3"; empty where it was not read.
+    origin : tuple of (str, int), optional
+        The CSV file that it was read from, or an empty text, and which row of it, from 0 on; None where it was not read.
+    """
 
     name: str = key("name", "what people call it", REQUIRED, aliases=("node", "label"))
     id: int | None = key("whole", "its number in the network; given in the natural order of names where it is not, and written back", low=1, high=200)
@@ -64,8 +118,34 @@ class Node(Row):
 
 @dataclass
 class Link(Row):
-    """`[[link]]`, or a row of a table of links: what was measured from one node to another. A row without any measure is one whose ratio
-    is not known."""
+    """`[[link]]`, or a row of a table of links: what was measured from one node to another.
+
+    A row without any measure is one whose ratio is not known.
+
+    Parameters
+    ----------
+    sender : str
+        The name of the node that transmits, `from` in a file.
+    receiver : str
+        The name of the node that receives, `to` in a file.
+    ratio : float, optional
+        The part of what is sent that is received, 0 to 1.
+    sent : int, optional
+        How many probes were sent, at least 1; given with `received` or `ratio`.
+    received : int, optional
+        How many of them were received, 0 to `sent`.
+    rssi : float, optional
+        The received power in dBm, -150 to 30.
+    at : float or str, optional
+        From when on it holds: in s from the start of the run, at least 0, or a date and a time, as "2026-01-31 14:05:00", of which the first is the
+        start; None where the link has no series.
+    both : bool
+        Whether it holds for the other direction too.
+    where : str
+        The place that it was read from, for messages, as "plan.toml, line 12, [[node]], row 3"; empty where it was not read.
+    origin : tuple of (str, int), optional
+        The CSV file that it was read from, or an empty text, and which row of it, from 0 on; None where it was not read.
+    """
 
     sender: str = key("node", "the node that transmits", REQUIRED, name="from", aliases=("tx", "source", "u", "src", "sender", "transmitter"))
     receiver: str = key("node", "the node that receives", REQUIRED, name="to", aliases=("rx", "target", "v", "dst", "dest", "destination", "receiver"))
@@ -80,7 +160,45 @@ class Link(Row):
 
 @dataclass
 class Stream(Row):
-    """`[[stream]]`, or a row of the table of streams: packets of one kind from one node."""
+    """`[[stream]]`, or a row of the table of streams: packets of one kind from one node.
+
+    It has one of `every`, `sporadic` and `at`.
+
+    Parameters
+    ----------
+    source : str
+        The name of the node that has the packets, `from` in a file.
+    name : str
+        What people call it; where it is empty and a plan is read, the name of its node, and after a slash its number where that is not 0.
+    to : str or list of str
+        For whom the packets are meant: the name of a node or several, "hosts" for whichever host serves, or "all".
+    number : int, optional
+        Which of the streams of its node it is, 0 to 3, `stream` in a file; where it is None, `Plan.check` gives it in the natural order of names.
+    every : float, optional
+        The time from one packet to the next in s, above 0 and below the length of the run.
+    sporadic : float, optional
+        In place of that: packets at random times, and the mean time between them in s, above 0.
+    at : list of float
+        In place of both: the times of its packets in s, each at least 0.
+    deadline : float, optional
+        How late its packets may come, in s, above 0 and below the length of the run.
+    bytes : int, optional
+        The length of a payload in bytes, 0 to 32, in profile 2 to 96; None for 3.
+    interval : int, optional
+        The interval that it requests, 1 to 120 s; None for its period rounded down, of sporadic packets the deadline, else the mean.
+    start : float or str
+        When it is requested and begins, in s, at least 0; "drawn" for a phase of its period that each seed draws.
+    until : float, optional
+        When its packets end, in s, above `start`; None for the end of the run.
+    keep_alive : float, optional
+        How often in s it sends a packet of no bytes so that its host keeps it, 0 for never; None for what `Settings.keep_alive` says.
+    tags : list of str
+        Words by which requirements name several streams at once.
+    where : str
+        The place that it was read from, for messages, as "plan.toml, line 12, [[node]], row 3"; empty where it was not read.
+    origin : tuple of (str, int), optional
+        The CSV file that it was read from, or an empty text, and which row of it, from 0 on; None where it was not read.
+    """
 
     source: str = key("node", "the node that has the packets", REQUIRED, name="from", aliases=("sensor", "node", "source", "sender", "tx"))
     name: str = key("text", "what people call it; without one the name of its node, and after a slash its number where that is not 0", "",
@@ -107,7 +225,19 @@ class Stream(Row):
 
 @dataclass
 class Host(Row):
-    """`[[host]]`: a node that may serve the rounds."""
+    """`[[host]]`: a node that may serve the rounds.
+
+    Parameters
+    ----------
+    node : str
+        The name of the node.
+    rank : int
+        Its rank: 0 is the first choice, 1 to 3 are backups, and ranks follow each other.
+    where : str
+        The place that it was read from, for messages, as "plan.toml, line 12, [[node]], row 3"; empty where it was not read.
+    origin : tuple of (str, int), optional
+        The CSV file that it was read from, or an empty text, and which row of it, from 0 on; None where it was not read.
+    """
 
     node: str = key("node", "the node", REQUIRED)
     rank: int = key("whole", "0 is the first choice, 1 to 3 are backups", 0, low=0, high=3)
@@ -115,7 +245,25 @@ class Host(Row):
 
 @dataclass
 class Floor(Row):
-    """`[floor]`: the plan of the building."""
+    """`[floor]`: the plan of the building.
+
+    Parameters
+    ----------
+    picture : str
+        The name of a picture of the floor plan, in the folder of the plan file; empty for none.
+    extent : list of float, optional
+        Where the left, lower, right and upper edges of the picture are, in m; nodes lie within.
+    metres_per_pixel : float, optional
+        In place of that: how large a pixel is in m, above 0, with the lower left corner at 0, 0.
+    height : float
+        From one floor to the next in m, above 0.
+    floors : int, optional
+        How many floors there are, 1 to 200, with nodes on floors from 0 on; None where the plan does not say so.
+    where : str
+        The place that it was read from, for messages, as "plan.toml, line 12, [[node]], row 3"; empty where it was not read.
+    origin : tuple of (str, int), optional
+        The CSV file that it was read from, or an empty text, and which row of it, from 0 on; None where it was not read.
+    """
 
     picture: str = key("file", "a picture of the floor plan, in the folder of the plan file", "")
     extent: list[float] | None = key("box", "where the left, lower, right and upper edges of the picture are; nodes lie within", unit="m")
@@ -152,7 +300,42 @@ class Losses(Row):
 
 @dataclass
 class Event(Row):
-    """`[[event]]`: what happens in the run, to a node, to a link or in an area, once or again and again."""
+    """`[[event]]`: what happens in the run, to a node, to a link or in an area, once or again and again.
+
+    It has one of `node`, `link` and `area`, and one of `at` and `between`.
+
+    Parameters
+    ----------
+    name : str
+        What people call it, on one line.
+    node : str, optional
+        The name of the node to which it happens.
+    link : list of str, optional
+        The names of the two ends of a link, of which both directions are meant.
+    area : list of float, optional
+        The left, lower, right and upper edges of an area, in m.
+    floor : int, optional
+        The floor of the area, -20 to 200; None for all.
+    at : float, optional
+        When it begins, in s, at least 0 and before the end of the run.
+    between : list of float, optional
+        In place of that: the two times in s between which it begins, drawn by the seed, the first at least 0 and below the second, which is before the end
+        of the run.
+    duration : float, optional
+        How long it lasts in s, above 0, `for` in a file; None for the end of the run.
+    every : float, optional
+        The time in s from one beginning to the next, above `duration`; None where it happens once.
+    off : bool, optional
+        Whether the node, or each node in the area, has no power, or the link passes nothing; None: where no ratio is given.
+    ratio : float, optional
+        What links of the node, the link, or links with an end in the area pass at most, 0 to 1.
+    restart : bool
+        Whether a node that comes back requests its streams again.
+    where : str
+        The place that it was read from, for messages, as "plan.toml, line 12, [[node]], row 3"; empty where it was not read.
+    origin : tuple of (str, int), optional
+        The CSV file that it was read from, or an empty text, and which row of it, from 0 on; None where it was not read.
+    """
 
     name: str = key("text", "what people call it", "")
     node: str | None = key("node", "the node to which it happens")
@@ -170,7 +353,23 @@ class Event(Row):
 
 @dataclass
 class Battery(Row):
-    """`[battery]`: what a radio takes, and what batteries have."""
+    """`[battery]`: what a radio takes, and what batteries have.
+
+    Parameters
+    ----------
+    receive_ma : float, optional
+        The current in mA, at least 0, while a radio is on and does not transmit; None for 18.8.
+    transmit_ma : float, optional
+        The current in mA, at least 0, while it transmits; None for 17.4.
+    sleep_ma : float, optional
+        The current in mA, at least 0, while it is off; None for 0.
+    capacity_mah : dict
+        By kind of battery ("battery", "2xAA", "1xAA" or "D") the charge in mAh, above 0, in place of the usual one.
+    where : str
+        The place that it was read from, for messages, as "plan.toml, line 12, [[node]], row 3"; empty where it was not read.
+    origin : tuple of (str, int), optional
+        The CSV file that it was read from, or an empty text, and which row of it, from 0 on; None where it was not read.
+    """
 
     receive_ma: float | None = key("real", "the current while a radio is on and does not transmit; 18.8 where it is not given", low=0, unit="mA")
     transmit_ma: float | None = key("real", "the current while it transmits; 17.4 where it is not given", low=0, unit="mA")
@@ -181,7 +380,46 @@ class Battery(Row):
 
 @dataclass
 class Requirement(Row):
-    """`[[requirement]]`: what has to hold, one of share, ratio, years, joined and outage."""
+    """`[[requirement]]`: what has to hold, one of share, ratio, years, joined and outage.
+
+    Parameters
+    ----------
+    name : str
+        What people call it, another one for each.
+    share : float, optional
+        The part of the packets that come in time, above 0 and at most 1; it needs a `deadline`, its own or one of each stream.
+    ratio : float, optional
+        The part of the packets that arrive at all, above 0 and at most 1.
+    years : float, optional
+        How long batteries last in years, above 0.
+    joined : float, optional
+        After how long all nodes are members, in s, above 0 and below the length of the run.
+    outage : float, optional
+        How long nothing may arrive after a failure, in s, above 0 and below the length of the run.
+    streams : list of str
+        The names of the streams that it is about; all where neither these nor a tag is given.
+    tag : str
+        In place of that: the streams with this tag, or of the nodes that have it.
+    to : str or list of str, optional
+        The receivers that count, in the forms of `Stream.to`; None for those of each stream.
+    deadline : float, optional
+        How late a packet may come, in s, above 0 and below the length of the run, for `share`; None for that of each stream.
+    nodes : str or list of str, optional
+        The nodes that `years` or `joined` is of: names, a tag, "battery" for those that are not on mains, or "all"; None for "battery" where it is
+        years, else for all.
+    when : str
+        It is "as planned", "NAME fails", "any one node fails" or "any one host fails".
+    at : float, optional
+        When the failure is, in s, at least 0 and before the end of the run; None for after a third of the run.
+    part : float, optional
+        In which part of the draws it has to hold, above 0 and at most 1, `in` in a file; None for on average over the draws.
+    confidence : float
+        How sure a verdict has to be, 0.5 to 0.9999.
+    where : str
+        The place that it was read from, for messages, as "plan.toml, line 12, [[node]], row 3"; empty where it was not read.
+    origin : tuple of (str, int), optional
+        The CSV file that it was read from, or an empty text, and which row of it, from 0 on; None where it was not read.
+    """
 
     name: str = key("text", "what people call it, another one for each", REQUIRED)
     share: float | None = key("real", "the part of the packets that come in time", above=0, high=1)
@@ -203,7 +441,35 @@ class Requirement(Row):
 
 @dataclass
 class Search(Row):
-    """`[search]`: what `foldcairn search` may choose; what is not given stays as the plan has it."""
+    """`[search]`: what `foldcairn search` may choose; what is not given stays as the plan has it.
+
+    Parameters
+    ----------
+    profile : list of int, optional
+        Profiles, 1 and 2, of which one is chosen.
+    sends : list of int, optional
+        How often a node may transmit in one flood, each 1 to 4.
+    contend : list of int, optional
+        Numbers of contention slots, each 0 to 4, in profile 2.
+    interval : list of float, optional
+        The intervals that streams with a period request, as parts of their periods, each above 0 and at most 1.
+    keep_alive : list of float, optional
+        Keep-alives in s, each at least 0, in place of that of [plan]; 0 for none.
+    hosts : list of str, optional
+        The names of the nodes of which one has rank 0.
+    backups : list of str, optional
+        The names of the nodes of which one has rank 1.
+    relays : list of str, optional
+        The names of the candidates that may be relays.
+    relays_most : int
+        How many of them at most are put at a time, 1 to 8.
+    settings : int
+        How many settings are tried at most, 1 to 10,000.
+    where : str
+        The place that it was read from, for messages, as "plan.toml, line 12, [[node]], row 3"; empty where it was not read.
+    origin : tuple of (str, int), optional
+        The CSV file that it was read from, or an empty text, and which row of it, from 0 on; None where it was not read.
+    """
 
     profile: list[int] | None = key("wholes", "profiles, of which one is chosen", low=1, high=2)
     sends: list[int] | None = key("wholes", "how often a node may transmit in one flood", low=1, high=4)
