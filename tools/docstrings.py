@@ -4,9 +4,8 @@
 Usage: tools/docstrings.py [MODULE ..]
 
 Public is what `__all__` names in foldcairn itself and in the modules directly below it: functions, and classes with their public methods and
-properties. Without words it checks all of these but the modules of LATER below. Status 0 if nothing is wrong; 1 if something is: each is
-told on a line with the name, the number of the check and what it says. A module of LATER in which nothing is wrong is told too, since it
-belongs there no more. Tested, not proved.
+properties. Without words it checks all of these. Status 0 if nothing is wrong; 1 if something is: each is told on a line with the name, the
+number of the check and what it says. Tested, not proved.
 """
 
 from __future__ import annotations
@@ -24,8 +23,6 @@ from typing import Any
 from numpydoc.validate import validate
 
 PACKAGE = "foldcairn"
-# The public modules whose docstrings do not have numpydoc's form in all places yet.
-LATER = frozenset({"foldcairn.plan"})
 # The checks of numpydoc that hold here. Left out are those of a manual's pages (an example, a "See Also", an extended summary), of where the
 # quotes are (GL01, GL02), of a summary's verb (SS05), and of how the text of "Returns" begins and ends (RT04, RT05), where columns are listed.
 CHECKS = {
@@ -112,11 +109,6 @@ def main(words: list[str]) -> int:
                 count += 1
                 wrong += wrong_in(name, one)
             seen.add(id(one))
-        if module in LATER and not words:
-            if not wrong:
-                print(f"tools/docstrings.py: {module}: nothing is wrong in it, so take it out of LATER")
-            failed |= not wrong
-            continue
         for name, code, text in wrong:
             print(f"tools/docstrings.py: {name}: {code} {text}")
         failed |= bool(wrong)

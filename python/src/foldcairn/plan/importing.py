@@ -190,7 +190,8 @@ def of_tables(
     """
     document = tomlkit.document()
     document["plan"] = settings or {}
-    ranks, ignored = _hosts(nodes) if not list(hosts) else ({}, [])
+    named = list(hosts)
+    ranks, ignored = _hosts(nodes) if not named else ({}, [])
     files: dict[str, Any] = {"nodes": os.path.abspath(nodes), "ignore": ignored}
     if links:
         files["links"] = [os.path.abspath(one) for one in links]
@@ -200,7 +201,6 @@ def of_tables(
     if losses:
         document["losses"] = losses
     made = Plan.parse(tomlkit.dumps(document))
-    named = list(hosts)
     made.hosts = [Host(name, rank) for rank, name in enumerate(named)] if named else [Host(name, rank) for rank, name in sorted(ranks.items())]
     made.source = None
     made.check()

@@ -274,7 +274,48 @@ class Floor(Row):
 
 @dataclass
 class Losses(Row):
-    """`[losses]`: where the reception ratios come from."""
+    """`[losses]`: where the reception ratios come from.
+
+    Parameters
+    ----------
+    source : str
+        What they are taken from, `from` in a file: "survey" for what was measured, "positions" for a model of path loss, "both" for the model where
+        nothing was measured, "none" where each link passes all.
+    preset : str
+        The name of the surroundings, whose numbers hold where none is given here; empty for none.
+    exponent : float, optional
+        How fast power falls with distance, above 0 and at most 10; 2 in free space.
+    reference_db : float
+        The loss over the first metre in dB, 0 to 120.
+    deviation_db : float, optional
+        How far links scatter about the model, a standard deviation in dB, 0 to 40.
+    floor_db : float, optional
+        The loss of a floor in dB, 0 to 100.
+    wall_db : float, optional
+        The loss in dB, 0 to 100, of a wall of `walls` that has none of its own.
+    transmit_dbm : float
+        The power of the transmitter in dBm, -60 to 30.
+    noise_dbm : float
+        The noise at the receiver in dBm, -140 to 0.
+    correlation : float
+        How much the scatter of the two directions of a link has in common, 0 to 1.
+    bytes : int, optional
+        The length in bytes of the packets that count, header and payload, 1 to 125; None for the longest of the plan.
+    least : float
+        The ratio, 0 to 1, below which links are left out.
+    unknown : str
+        What a link is whose measure is not given: "error", "positions" for one of the model, or "none".
+    unheard : str
+        Of "both": what a link is that has no row, though its sender and its receiver are in others, "none" or "positions".
+    fit : bool
+        Of "both": whether exponent and deviation are those that fit the power that was measured; one that is given stays.
+    walls : list of list of float
+        Walls as [x0, y0, x1, y1] in m, then maybe their loss in dB and their floor.
+    where : str
+        The place that it was read from, for messages, as "plan.toml, line 12, [[node]], row 3"; empty where it was not read.
+    origin : tuple of (str, int), optional
+        The CSV file that it was read from, or an empty text, and which row of it, from 0 on; None where it was not read.
+    """
 
     source: str = key("choice", "survey: what was measured; positions: a model of path loss; both: the model where nothing was measured; none: each "
                       "link passes all", "survey", name="from", choices=("survey", "positions", "both", "none"))  # fmt: skip
