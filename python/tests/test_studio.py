@@ -2,6 +2,8 @@
 
 from __future__ import annotations
 
+import csv
+import io
 import re
 from pathlib import Path
 
@@ -10,7 +12,7 @@ from browser import Browser
 from studio_page import PLAN, click, drop, key, needs_browser, node, place
 
 from foldcairn.plan import Plan
-from foldcairn.runs import program
+from foldcairn.runs import program, results
 from foldcairn.studio import joining, writing
 
 pytestmark = needs_browser
@@ -95,19 +97,41 @@ def test_a_value_is_typed_and_a_wrong_one_gets_a_sentence(page: Browser) -> None
     assert page.evaluate("foldcairnPage.store.state.plan.stream[7].deadline") == 25
 
 
+def _saved(page: Browser, button: str) -> str:
+    """What a button of the files would save, in place of the file of a download; it waits for it for a minute."""
+    for _ in range(60):
+        text = page.evaluate(
+            "(async () => { const old = URL.createObjectURL; foldcairnPage.store.set({ tab: 'files' });"
+            " const saved = new Promise((told) => { URL.createObjectURL = (blob) => { told(blob.text()); return old(blob); }; });"
+            f" [...document.querySelectorAll('button')].find((one) => one.textContent.startsWith({button!r})).click();"
+            " const text = await Promise.race([saved, new Promise((told) => setTimeout(told, 1000, null))]);"
+            " URL.createObjectURL = old; return text; })()"
+        )
+        if text is not None:
+            return str(text)
+    raise AssertionError(f"nothing is saved by {button}")
+
+
 def test_files_come_in_and_go_out(page: Browser, tmp_path: Path) -> None:
-    # What would be saved, in place of the file of a download.
-    text = page.evaluate(
-        "(async () => { let text; const old = URL.createObjectURL; URL.createObjectURL = (blob) => { text = blob.text(); return old(blob); };"
-        " foldcairnPage.store.set({ tab: 'files' });"
-        " [...document.querySelectorAll('button')].find((one) => one.textContent.startsWith('Plan file')).click();"
-        " URL.createObjectURL = old; return text; })()"
-    )
-    assert Plan.parse(text) == Plan.parse(PLAN)
+    assert Plan.parse(_saved(page, "Plan file")) == Plan.parse(PLAN)
     assert "opened" in drop(page, {"other.toml": PLAN.replace("Door-2", "Gate 2")})
     assert node(page, "Gate 2")["x"] == 56
     assert "read" in drop(page, {"nodes.csv": (Path(__file__).parent / "cases/studio-nodes.csv").read_text()})
     assert node(page, "Press-1")["x"] == 7.5
+
+
+def test_tables_answers_and_a_network_go_out(page: Browser) -> None:
+    plan = Plan.parse(PLAN)
+    nodes = list(csv.DictReader(io.StringIO(_saved(page, "nodes.csv"))))
+    assert [(one["name"], float(one["x"])) for one in nodes] == [(name, node.x) for name, node in plan.nodes.items()]
+    streams = list(csv.DictReader(io.StringIO(_saved(page, "streams.csv"))))
+    assert [one["from"] for one in streams] == [stream.source for stream in plan.streams.values()]
+    answers = list(csv.DictReader(io.StringIO(_saved(page, "Answers (CSV)"))))
+    assert {one["name"] for one in answers if one["of"] == "requirement"} == {one.name for one in plan.requirements}
+    assert {one["name"] for one in answers if one["of"] == "stream"} == set(plan.streams)
+    # The network of seed 1 is one that the program takes, with the nodes of the plan.
+    report = results.outcome(_saved(page, "Network text"), 1)
+    assert len(report.scenario.nodes) == len(plan.nodes) and len(report.deliveries)
 
 
 HOSTILE = {
